@@ -9,7 +9,7 @@ use play_engine::{cut_stream, play_stream, why_stream};
 use record_engine::record_stream;
 use run_engine::run_stream;
 use stable_engine::stable_stream;
-use stable_search::Limits;
+use stable_search::SearchLimits;
 use std::alloc::Global;
 use std::sync::Wait;
 use std::thread::Threads;
@@ -33,7 +33,7 @@ pub enum Task {
     /// Show what the router of this number knows.
     Why(u32),
     /// List all stable assignments, as far as these limits of each dispute let it.
-    Stable(Limits),
+    Stable(SearchLimits),
 }
 
 /// A task of threads.

@@ -13,7 +13,7 @@ use bgp_codec::{NOBODY, Rule};
 use bgp_values::{Width, greatest_asn};
 use clap::error::ErrorKind;
 use clap::{Arg, ArgAction, ArgMatches, Command, Error};
-use stable_search::Limits;
+use stable_search::SearchLimits;
 use std::alloc::{AllocError, Global};
 use text_engines::status::{DONE, USAGE};
 use thread_runs::RunOptions;
@@ -148,7 +148,7 @@ fn asked_stable(alloc: Global, found: &ArgMatches) -> Result<Asked, AllocError> 
     }
     let most = found.get_one::<u32>("most").unwrap_or(MOST_CHOICES);
     let steps = found.get_one::<u32>("steps").unwrap_or(STEPS);
-    Ok(Asked::Task(Task::Stable(Limits {
+    Ok(Asked::Task(Task::Stable(SearchLimits {
         most: most as usize,
         steps: u64::from(steps),
     })))

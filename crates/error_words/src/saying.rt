@@ -9,7 +9,7 @@ use crate::hints::{Hint, has, hint_of_hex, hint_of_line, hint_text};
 use crate::meanings::meaning_at;
 use crate::refusals::{line_at, refusal_of};
 use crate::usage::write_words;
-use net_text::Tail;
+use net_text::TextTail;
 use net_text::lexing::same;
 use std::alloc::{AllocError, Global};
 use text_engines::status::{REFUSED, STOPPED, USAGE};
@@ -46,7 +46,7 @@ fn shown_octet(x: u8) -> u8
 }
 
 // Writes octets as they are shown.
-fn write_octets(out: &mut Tail, octets: &[u8]) -> Result<(), AllocError>
+fn write_octets(out: &mut TextTail, octets: &[u8]) -> Result<(), AllocError>
     ensures text { OnOk result (out.new.text ≡ out.old.text ++ map shown_octet octets.now) }
     ensures front { out.new.front ≡ out.old.front }
 {
@@ -57,7 +57,7 @@ fn write_octets(out: &mut Tail, octets: &[u8]) -> Result<(), AllocError>
 }
 
 /// Writes a line as it is shown.
-pub(crate) fn write_shown(out: &mut Tail, line: &[u8]) -> Result<(), AllocError>
+pub(crate) fn write_shown(out: &mut TextTail, line: &[u8]) -> Result<(), AllocError>
     ensures text { OnOk result (out.new.text ≡ out.old.text ++ shown line.now) }
     ensures front { out.new.front ≡ out.old.front }
 {
@@ -70,7 +70,7 @@ pub(crate) fn write_shown(out: &mut Tail, line: &[u8]) -> Result<(), AllocError>
 }
 
 // Writes of which line a refusal is.
-fn write_place(out: &mut Tail, at: u64) -> Result<(), AllocError>
+fn write_place(out: &mut TextTail, at: u64) -> Result<(), AllocError>
     ensures text { OnOk result (out.new.text ≡ out.old.text ++ place_text at) }
     ensures front { out.new.front ≡ out.old.front }
 {
@@ -83,7 +83,7 @@ fn write_place(out: &mut Tail, at: u64) -> Result<(), AllocError>
 }
 
 // Writes the line that is refused, if it is known.
-fn write_found(out: &mut Tail, found: Option<&[u8]>) -> Result<(), AllocError>
+fn write_found(out: &mut TextTail, found: Option<&[u8]>) -> Result<(), AllocError>
     ensures text { OnOk result (out.new.text ≡ out.old.text ++ found_text (option_copied found.entry)) }
     ensures front { out.new.front ≡ out.old.front }
 {
@@ -96,7 +96,7 @@ fn write_found(out: &mut Tail, found: Option<&[u8]>) -> Result<(), AllocError>
 
 #[tactic(auto, unfolding(crate::specs::Saying::refusal_text))]
 fn write_refusal(
-    out: &mut Tail,
+    out: &mut TextTail,
     at: u64,
     code: &[u8],
     found: Option<&[u8]>,
@@ -114,7 +114,7 @@ fn write_refusal(
 }
 
 #[tactic(auto, unfolding(crate::specs::Saying::remark_text))]
-fn write_remark(out: &mut Tail, text: &[u8]) -> Result<(), AllocError>
+fn write_remark(out: &mut TextTail, text: &[u8]) -> Result<(), AllocError>
     ensures text { OnOk result (out.new.text ≡ out.old.text ++ remark_text text.now) }
     ensures front { out.new.front ≡ out.old.front }
 {
@@ -123,7 +123,7 @@ fn write_remark(out: &mut Tail, text: &[u8]) -> Result<(), AllocError>
     out.put_text(b"\n")
 }
 
-fn write_hint(out: &mut Tail, hint: Option<Hint>) -> Result<(), AllocError>
+fn write_hint(out: &mut TextTail, hint: Option<Hint>) -> Result<(), AllocError>
     ensures text { OnOk result (out.new.text ≡ out.old.text ++ hint_said hint) }
     ensures front { out.new.front ≡ out.old.front }
 {
@@ -134,7 +134,7 @@ fn write_hint(out: &mut Tail, hint: Option<Hint>) -> Result<(), AllocError>
 }
 
 // Writes the words on a line that is refused.
-fn write_named(out: &mut Tail, input: &[u8], at: u64, code: &[u8]) -> Result<(), AllocError>
+fn write_named(out: &mut TextTail, input: &[u8], at: u64, code: &[u8]) -> Result<(), AllocError>
     ensures text { OnOk result
         (out.new.text ≡ out.old.text ++ named_said input.now (Some (record { at = at; code = code.now }))) }
     ensures front { out.new.front ≡ out.old.front }
@@ -145,7 +145,7 @@ fn write_named(out: &mut Tail, input: &[u8], at: u64, code: &[u8]) -> Result<(),
 }
 
 // Writes the words on an input that is no hex.
-fn write_no_hex(out: &mut Tail, input: &[u8]) -> Result<(), AllocError>
+fn write_no_hex(out: &mut TextTail, input: &[u8]) -> Result<(), AllocError>
     ensures text { OnOk result
         (out.new.text
         ≡ out.old.text ++ (remark_text no_hex ++ hint_said (hint_of_hex input.now (first_line input.now)))) }
@@ -159,7 +159,7 @@ fn write_no_hex(out: &mut Tail, input: &[u8]) -> Result<(), AllocError>
     write_hint(out, hint_of_hex(input, first.unwrap_or(b"")))
 }
 
-fn write_refused(out: &mut Tail, last: &[u8], input: &[u8]) -> Result<(), AllocError>
+fn write_refused(out: &mut TextTail, last: &[u8], input: &[u8]) -> Result<(), AllocError>
     ensures text { OnOk result (out.new.text ≡ out.old.text ++ refused_said last.now input.now) }
     ensures front { out.new.front ≡ out.old.front }
 {
@@ -172,7 +172,7 @@ fn write_refused(out: &mut Tail, last: &[u8], input: &[u8]) -> Result<(), AllocE
     }
 }
 
-fn write_stopped(out: &mut Tail, read_failed: bool) -> Result<(), AllocError>
+fn write_stopped(out: &mut TextTail, read_failed: bool) -> Result<(), AllocError>
     ensures text { OnOk result (out.new.text ≡ out.old.text ++ stopped_said read_failed) }
     ensures front { out.new.front ≡ out.old.front }
 {
@@ -183,7 +183,7 @@ fn write_stopped(out: &mut Tail, read_failed: bool) -> Result<(), AllocError>
     }
 }
 
-fn write_said(out: &mut Tail, end: &End) -> Result<(), AllocError>
+fn write_said(out: &mut TextTail, end: &End) -> Result<(), AllocError>
     ensures text { OnOk result (out.new.text ≡ out.old.text ++ said end.now) }
     ensures front { out.new.front ≡ out.old.front }
 {
@@ -201,7 +201,7 @@ pub fn said(alloc: Global, end: &End) -> Result<Vec<u8>, AllocError>
     ensures { IfOk result (λ text. text.items ≡ said end.now) }
 {
     let mut text = Vec::new(alloc);
-    let mut tail = Tail::behind(&mut text);
+    let mut tail = TextTail::behind(&mut text);
     write_said(&mut tail, end)?;
     Ok(tail.finish(true))
 }

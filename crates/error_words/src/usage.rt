@@ -6,7 +6,7 @@ ghost use Rattle.error_words.specs.Saying.{bound_of, reads_alone, usage_of, is_f
 
 use crate::hints::has;
 use crate::saying::write_shown;
-use net_text::Tail;
+use net_text::TextTail;
 use net_text::lexing::same;
 use std::alloc::AllocError;
 use text_engines::INPUT_LIMIT;
@@ -68,7 +68,7 @@ fn is_file(name: &[u8]) -> bool
 }
 
 #[tactic(auto, unfolding(crate::specs::Saying::file_text))]
-fn write_file(out: &mut Tail, word: &[u8], usage: &[u8], name: &[u8]) -> Result<(), AllocError>
+fn write_file(out: &mut TextTail, word: &[u8], usage: &[u8], name: &[u8]) -> Result<(), AllocError>
     ensures text { OnOk result (out.new.text ≡ out.old.text ++ file_text word.now usage.now name.now) }
     ensures front { out.new.front ≡ out.old.front }
 {
@@ -81,7 +81,7 @@ fn write_file(out: &mut Tail, word: &[u8], usage: &[u8], name: &[u8]) -> Result<
 
 /// Writes the words on arguments that the program does not take, by the first and the last of them: how the input is
 /// given, if the last is a name of a file.
-pub(crate) fn write_words(out: &mut Tail, word: &[u8], name: &[u8]) -> Result<(), AllocError>
+pub(crate) fn write_words(out: &mut TextTail, word: &[u8], name: &[u8]) -> Result<(), AllocError>
     ensures text { OnOk result (out.new.text ≡ out.old.text ++ words_said word.now name.now) }
     ensures front { out.new.front ≡ out.old.front }
 {

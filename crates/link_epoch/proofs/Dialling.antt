@@ -4,14 +4,14 @@ use Rattle.std.specs.Prelude.{max, nat_lt}
 use Rattle.std.proofs.lemmas.Bool.{cases_Bool, ltb-true, and_parts, cond-true, cond-false}
 use Rattle.link_epoch.specs.declared.link_end.Sign.{Sign}
 use Rattle.link_epoch.specs.declared.link_end.Sign.TheVariants.{Dial, Shut}
-use Rattle.link_epoch.specs.Ends.{LinkView, is_awaited, next_number, dialled, hung_up, heard_by, opening}
+use Rattle.link_epoch.specs.Ends.{LinkView, is_joinable, next_number, dialled, hung_up, heard_by, opening}
 use Rattle.link_epoch.specs.Histories.{Move, Dials, HangsUp, Hears, after_all, numbers_from, greatest, EpochIsGreatest, NumbersRise}
 
 -- a dial's number is above the last one
 pub next_is_above : (a : LinkView) → a.epoch < next_number a
-next_is_above a = elim (cases_Bool (is_awaited a)) [
-  | inl e ↦ rw (cond-true (is_awaited a) a.heard (max a.epoch a.heard + 1) e) (ltb-true a.epoch a.heard (and_parts _ _ e).0)
-  | inr e ↦ rw (cond-false (is_awaited a) a.heard (max a.epoch a.heard + 1) e) (omega arith)
+next_is_above a = elim (cases_Bool (is_joinable a)) [
+  | inl e ↦ rw (cond-true (is_joinable a) a.heard (max a.epoch a.heard + 1) e) (ltb-true a.epoch a.heard (and_parts _ _ e).0)
+  | inr e ↦ rw (cond-false (is_joinable a) a.heard (max a.epoch a.heard + 1) e) (omega arith)
 ]
 
 -- a sign leaves the last number dialled

@@ -7,7 +7,7 @@ use Rattle.link_epoch.specs.declared.link_end.Phase.TheVariants.{Offered, Joined
 use Rattle.link_epoch.specs.declared.link_end.Phase.TheVariants as phase
 use Rattle.link_epoch.specs.declared.link_end.Sign.{Sign}
 use Rattle.link_epoch.specs.declared.link_end.Sign.TheVariants.{Dial, Shut}
-use Rattle.link_epoch.specs.Ends.{LinkView, is_awaited, dialled, hung_up, heard_by, opening, phase_at_dial}
+use Rattle.link_epoch.specs.Ends.{LinkView, is_joinable, dialled, hung_up, heard_by, opening, phase_at_dial}
 use Rattle.link_epoch.specs.Histories.{Move, Dials, HangsUp, Hears, after, after_all, end_after, signs_heard, greatest_dial, IsHeard, IsShut, HeardIsGreatest, HeardIsShut, HeardIsShutAnywhere, NeverHangsUp, HoldsOn, JoinedWhereDialledAndHeard}
 
 -- a sign with the property P of those before it
@@ -143,7 +143,7 @@ knows_sign past a (Shut n) k = elim (cases_Bool (n == a.heard)) [
 
 -- a dial joins exactly where its number was heard
 knows_dialled : (past : List Sign) (a : LinkView) → Knows past a → Knows past (dialled a)
-knows_dialled past a k = elim (cases_Bool (is_awaited a)) [
+knows_dialled past a k = elim (cases_Bool (is_joinable a)) [
   | inl e ↦ rw e (record {
     heard = k.heard;
     shut = k.shut;
@@ -226,7 +226,7 @@ open_holds a (Hears s ∷ ms) o = elim (open_holds (heard_by a s) ms o) [
 
 holds_open : (a : LinkView) (ms : List Move) → (a.phase ≡ phase.Shut → ⊥) → NeverHangsUp ms → (after_all a ms).phase ≡ phase.Shut → ⊥
 holds_open a [] o never = o
-holds_open a (Dials ∷ ms) o never = holds_open (dialled a) ms (dial_opens (is_awaited a)) never
+holds_open a (Dials ∷ ms) o never = holds_open (dialled a) ms (dial_opens (is_joinable a)) never
 holds_open a (HangsUp ∷ ms) o never = absurd never
 holds_open a (Hears s ∷ ms) o never = holds_open (heard_by a s) ms (open_stays a s o) never
 
@@ -243,6 +243,6 @@ pub joined_is : JoinedWhereDialledAndHeard
 joined_is ms = (
   (λ j. (elim (open_holds opening ms (λ e. cc (e, j))) [ inl h ↦ h | inr h ↦ absurd (h.0 refl) ], (knows ms).joined j)),
   (λ h. joined_of (end_after ms).phase
-      (rw (h.0.2, after-append opening h.0.0 (Dials ∷ h.0.1)) (holds_open (dialled (end_after h.0.0)) h.0.1 (dial_opens (is_awaited (end_after h.0.0))) h.0.3))
+      (rw (h.0.2, after-append opening h.0.0 (Dials ∷ h.0.1)) (holds_open (dialled (end_after h.0.0)) h.0.1 (dial_opens (is_joinable (end_after h.0.0))) h.0.3))
       (λ o. (knows ms).offered o h.1)),
 )

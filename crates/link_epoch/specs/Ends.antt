@@ -20,15 +20,15 @@ abbrev pub opening : LinkView
 opening = record { epoch = 0; heard = 0; heard_is_shut = false; phase = Shut }
 
 -- the peer waits in a number above the own
-abbrev pub is_awaited : LinkView → Bool
-is_awaited a = nat_lt a.epoch a.heard && not a.heard_is_shut
+abbrev pub is_joinable : LinkView → Bool
+is_joinable a = nat_lt a.epoch a.heard && not a.heard_is_shut
 
 -- the number of the next dial
 abbrev pub next_number : LinkView → ℕ
-next_number a = cond (is_awaited a) a.heard (max a.epoch a.heard + 1)
+next_number a = cond (is_joinable a) a.heard (max a.epoch a.heard + 1)
 
 abbrev pub dialled : LinkView → LinkView
-dialled a = record a { epoch = next_number a; phase = cond (is_awaited a) Joined Offered }
+dialled a = record a { epoch = next_number a; phase = cond (is_joinable a) Joined Offered }
 
 abbrev pub hung_up : LinkView → LinkView
 hung_up a = record a { phase = Shut }

@@ -1,7 +1,7 @@
 //! The end itself: what it dials, what it hears, and how it hangs up.
 
 ghost use Rattle.std.specs.Prelude.{◌≡◌, ◌≤◌, ◌^◌, ◌↔◌, IfOk, OnOk, OnErr, IsErr};
-ghost use Rattle.link_epoch.specs.Ends.{LinkView, opening, is_awaited, next_number, dialled, hung_up, heard_by, meaning_of, number_shut};
+ghost use Rattle.link_epoch.specs.Ends.{LinkView, opening, is_joinable, next_number, dialled, hung_up, heard_by, meaning_of, number_shut};
 
 use std::marker::Model;
 use thiserror::Error;
@@ -105,8 +105,8 @@ impl LinkEnd {
 
     /// Whether the peer waits in a number that this end can join: one above its own that is not
     /// shut. A `dial` joins exactly then.
-    pub fn is_awaited(&self) -> bool
-        ensures { result ≡ is_awaited self.now }
+    pub fn is_joinable(&self) -> bool
+        ensures { result ≡ is_joinable self.now }
     {
         self.epoch < self.heard && !self.heard_is_shut
     }
@@ -115,13 +115,13 @@ impl LinkEnd {
     /// end has dialled and heard. Refused with [`LinkError::EpochEnd`] exactly if that number would
     /// pass 4294967295; the end is then as it was.
     pub fn dial(&mut self) -> Result<Dialled, LinkError>
-        ensures number { IfOk result (λ d. d ≡ record { epoch = next_number self.old; joined = is_awaited self.old }) }
+        ensures number { IfOk result (λ d. d ≡ record { epoch = next_number self.old; joined = is_joinable self.old }) }
         ensures ok { OnOk result (self.new ≡ dialled self.old) }
         ensures used_up { IsErr result ↔ (2 ^ 32 ≤ next_number self.old) }
         ensures err { OnErr result (self.new ≡ self.old) }
     {
         let heard = self.heard;
-        let joined = self.is_awaited();
+        let joined = self.is_joinable();
         let epoch = if joined {
             heard
         } else {

@@ -7,12 +7,12 @@ use Rattle.bgp_values.specs.Ranges.{is_asn}
 use Rattle.bgp_values.specs.declared.width.Width.{Width}
 use Rattle.bgp_values.specs.declared.width.Width.TheVariants.{Two, Four}
 use Rattle.prefix_lanes.specs.Bits.{PrefixView}
-use Rattle.ranked_policy.specs.declared.network.Router.{Router}
+use Rattle.ranked_policy.specs.declared.network.NetRouter.{NetRouter}
 use Rattle.ranked_policy.specs.Adding.{with_link}
 use Rattle.net_text.specs.declared.code.Code.{Code}
 use Rattle.net_text.specs.declared.code.Code.TheVariants as kinds
 use Rattle.net_text.specs.declared.settings.Setting.{Setting}
-use Rattle.net_text.specs.declared.draft.Draft.{Draft}
+use Rattle.net_text.specs.declared.network_so_far.NetworkSoFar.{NetworkSoFar}
 use Rattle.net_text.specs.Lexing.{Text, same, words_of, is_skipped, says_nothing, is_ascii}
 use Rattle.net_text.specs.Words.{◌>>=◌, is_number, value_of, number_word, asn_word, router_word, is_router, id_word, prefix_word, path_of, rule_path_words}
 use Rattle.net_text.specs.Lines.{width_named, setting_of, in_range, was_named, setting_line, with_router, is_taken, router_line, link_line, with_origin, origin_line, with_rule, rule_line, rule_fault, named_line, words_line, line_reading}
@@ -35,7 +35,7 @@ passed true c e f x y h = absurd cc
 passed false true e f x y h = absurd cc
 passed false false e f x y h = cc
 
-known_by : (routers : List Router) (b : Bool) (u v : ℕ) → cond (not b) (Err kinds.UnknownRouter) (Ok u) ≡ Ok v → u ≡ v
+known_by : (routers : List NetRouter) (b : Bool) (u v : ℕ) → cond (not b) (Err kinds.UnknownRouter) (Ok u) ≡ Ok v → u ≡ v
 known_by routers true u v h = cc
 known_by routers false u v h = absurd cc
 
@@ -61,14 +61,14 @@ wide_asn : (width : Width) (a : Text) (u : ℕ) → asn_word width a ≡ Ok u �
 wide_asn width a u h = number_by (is_number a) (is_asn width (value_of a)) (is_asn Four (value_of a)) (value_of a) u (wider width (value_of a)) h
 
 -- a known router is one that its number names
-known_asn : (width : Width) (routers : List Router) (a : Text) (u : ℕ) → router_word width routers a ≡ Ok u → asn_word Four a ≡ Ok u
+known_asn : (width : Width) (routers : List NetRouter) (a : Text) (u : ℕ) → router_word width routers a ≡ Ok u → asn_word Four a ≡ Ok u
 known_asn width routers a u h =
     let b = bound (asn_word width a) _ u h in
     wide_asn width a u (b.1 ∙ ap (λ (n : ℕ). Ok n) (known_by routers (is_router routers b.0) b.0 u b.2))
 
 -- ---- what a good line adds
 
-pub record AddsRouter (d e : Draft) (words : List Text) : Type 0 where
+pub record AddsRouter (d e : NetworkSoFar) (words : List Text) : Type 0 where
   pub a : Text
   pub b : Text
   pub u : ℕ
@@ -78,7 +78,7 @@ pub record AddsRouter (d e : Draft) (words : List Text) : Type 0 where
   pub other : id_word b ≡ Ok id
   pub new : with_router d u id ≡ e
 
-pub record AddsLink (d e : Draft) (words : List Text) : Type 0 where
+pub record AddsLink (d e : NetworkSoFar) (words : List Text) : Type 0 where
   pub a : Text
   pub b : Text
   pub u : ℕ
@@ -88,7 +88,7 @@ pub record AddsLink (d e : Draft) (words : List Text) : Type 0 where
   pub other : asn_word Four b ≡ Ok v
   pub new : record d { net = with_link d.net u v } ≡ e
 
-pub record AddsOrigin (d e : Draft) (words : List Text) : Type 0 where
+pub record AddsOrigin (d e : NetworkSoFar) (words : List Text) : Type 0 where
   pub a : Text
   pub b : Text
   pub u : ℕ
@@ -98,7 +98,7 @@ pub record AddsOrigin (d e : Draft) (words : List Text) : Type 0 where
   pub other : prefix_word b ≡ Ok q
   pub new : with_origin d u q ≡ e
 
-pub record AddsRule (d e : Draft) (words : List Text) : Type 0 where
+pub record AddsRule (d e : NetworkSoFar) (words : List Text) : Type 0 where
   pub rest : List Text
   pub u : ℕ
   pub q : PrefixView
@@ -107,16 +107,16 @@ pub record AddsRule (d e : Draft) (words : List Text) : Type 0 where
   pub new : with_rule d u q paths ≡ e
 
 -- a setting, or nothing at all
-pub record AddsNothing (d e : Draft) (words : List Text) : Type 0 where
+pub record AddsNothing (d e : NetworkSoFar) (words : List Text) : Type 0 where
   pub router : (a b : Text) → words ≡ codes "router" ∷ a ∷ b ∷ [] → ⊥
   pub link : (a b : Text) → words ≡ codes "link" ∷ a ∷ b ∷ [] → ⊥
   pub origin : (a b : Text) → words ≡ codes "origin" ∷ a ∷ b ∷ [] → ⊥
   pub new : e.net ≡ d.net
 
-abbrev pub Adds : Draft → Draft → List Text → Type 0
+abbrev pub Adds : NetworkSoFar → NetworkSoFar → List Text → Type 0
 Adds d e words = AddsRouter d e words ⊎ (AddsLink d e words ⊎ (AddsOrigin d e words ⊎ (AddsRule d e words ⊎ AddsNothing d e words)))
 
-router_adds : (d e : Draft) (words : List Text) → router_line d words ≡ Ok e → AddsRouter d e (codes "router" ∷ words)
+router_adds : (d e : NetworkSoFar) (words : List Text) → router_line d words ≡ Ok e → AddsRouter d e (codes "router" ∷ words)
 router_adds d e [] h = absurd cc
 router_adds d e (a ∷ []) h = absurd cc
 router_adds d e (a ∷ b ∷ []) h =
@@ -134,7 +134,7 @@ router_adds d e (a ∷ b ∷ []) h =
     }
 router_adds d e (a ∷ b ∷ x ∷ words) h = absurd cc
 
-link_adds : (d e : Draft) (words : List Text) → link_line d words ≡ Ok e → AddsLink d e (codes "link" ∷ words)
+link_adds : (d e : NetworkSoFar) (words : List Text) → link_line d words ≡ Ok e → AddsLink d e (codes "link" ∷ words)
 link_adds d e [] h = absurd cc
 link_adds d e (a ∷ []) h = absurd cc
 link_adds d e (a ∷ b ∷ []) h =
@@ -152,7 +152,7 @@ link_adds d e (a ∷ b ∷ []) h =
     }
 link_adds d e (a ∷ b ∷ x ∷ words) h = absurd cc
 
-origin_adds : (d e : Draft) (words : List Text) → origin_line d words ≡ Ok e → AddsOrigin d e (codes "origin" ∷ words)
+origin_adds : (d e : NetworkSoFar) (words : List Text) → origin_line d words ≡ Ok e → AddsOrigin d e (codes "origin" ∷ words)
 origin_adds d e [] h = absurd cc
 origin_adds d e (a ∷ []) h = absurd cc
 origin_adds d e (a ∷ b ∷ []) h =
@@ -170,7 +170,7 @@ origin_adds d e (a ∷ b ∷ []) h =
     }
 origin_adds d e (a ∷ b ∷ x ∷ words) h = absurd cc
 
-rule_adds : (d e : Draft) (words : List Text) → rule_line d words ≡ Ok e → AddsRule d e (codes "rank" ∷ words)
+rule_adds : (d e : NetworkSoFar) (words : List Text) → rule_line d words ≡ Ok e → AddsRule d e (codes "rank" ∷ words)
 rule_adds d e [] h = absurd cc
 rule_adds d e (a ∷ []) h = absurd cc
 rule_adds d e (a ∷ b ∷ words) h =
@@ -187,19 +187,19 @@ rule_adds d e (a ∷ b ∷ words) h =
       new = (let k = free.2 in cc);
     }
 
-setting_by : (d e : Draft) (b : Bool) (x : Draft) → cond b (Err kinds.Repeated) (Ok x) ≡ Ok e → x ≡ e
+setting_by : (d e : NetworkSoFar) (b : Bool) (x : NetworkSoFar) → cond b (Err kinds.Repeated) (Ok x) ≡ Ok e → x ≡ e
 setting_by d e true x h = absurd cc
 setting_by d e false x h = cc
 
-setting_net : (d e : Draft) (s : Setting) (words : List Text) → setting_line s d words ≡ Ok e → e.net ≡ d.net
+setting_net : (d e : NetworkSoFar) (s : Setting) (words : List Text) → setting_line s d words ≡ Ok e → e.net ≡ d.net
 setting_net d e s [] h = absurd cc
 setting_net d e s (a ∷ []) h =
     let one = bound (number_word (in_range s) a) _ e h in
     let new = setting_by d e (was_named s d.named) _ one.2 in
-    ap (λ (k : Draft). k.net) (sym new)
+    ap (λ (k : NetworkSoFar). k.net) (sym new)
 setting_net d e s (a ∷ b ∷ words) h = absurd cc
 
-named_net : (d e : Draft) (s : Option Setting) (words : List Text) → named_line s d words ≡ Ok e → e.net ≡ d.net
+named_net : (d e : NetworkSoFar) (s : Option Setting) (words : List Text) → named_line s d words ≡ Ok e → e.net ≡ d.net
 named_net d e None words h = absurd cc
 named_net d e (Some s) words h = setting_net d e s words h
 
@@ -209,7 +209,7 @@ other_word name c words more differs fits e =
     let k : true ≡ false = sym fits ∙ ap (λ (t : Text). same t c) (sym is) ∙ differs in
     absurd cc
 
-line_adds : (d e : Draft) (name : Text) (words : List Text) (r l o k : Bool) → same name (codes "router") ≡ r → same name (codes "link") ≡ l → same name (codes "origin") ≡ o → same name (codes "rank") ≡ k
+line_adds : (d e : NetworkSoFar) (name : Text) (words : List Text) (r l o k : Bool) → same name (codes "router") ≡ r → same name (codes "link") ≡ l → same name (codes "origin") ≡ o → same name (codes "rank") ≡ k
     → cond r (router_line d words) (cond l (link_line d words) (cond o (origin_line d words) (cond k (rule_line d words) (named_line (setting_of name) d words)))) ≡ Ok e
     → Adds d e (name ∷ words)
 line_adds d e name words true l o k ir il io ik h = subst (λ (n : Text). Adds d e (n ∷ words)) (sym (same_true name (codes "router") ir)) (inl (router_adds d e words h))
@@ -224,14 +224,14 @@ line_adds d e name words false false false false ir il io ik h =
       new = named_net d e (setting_of name) words h;
     }))))
 
-words_add : (d e : Draft) (words : List Text) → words_line d words ≡ Ok e → Adds d e words
+words_add : (d e : NetworkSoFar) (words : List Text) → words_line d words ≡ Ok e → Adds d e words
 words_add d e [] h =
     let same_draft : d ≡ e = cc in
     inr (inr (inr (inr (record {
       router = λ a b k. absurd (cc);
       link = λ a b k. absurd (cc);
       origin = λ a b k. absurd (cc);
-      new = ap (λ (x : Draft). x.net) (sym same_draft);
+      new = ap (λ (x : NetworkSoFar). x.net) (sym same_draft);
     }))))
 words_add d e (name ∷ words) h = line_adds d e name words _ _ _ _ refl refl refl refl h
 
@@ -239,17 +239,17 @@ words_add d e (name ∷ words) h = line_adds d e name words _ _ _ _ refl refl re
 no_words : (words : List Text) (c : Text) (more : List Text) → says_nothing words ≡ true → says_nothing (c ∷ more) ≡ false → words ≡ c ∷ more → ⊥
 no_words words c more none some e = (let k : true ≡ false = sym none ∙ ap says_nothing e ∙ some in absurd cc)
 
-adds_by : (d e : Draft) (line : Text) (b c : Bool) → is_skipped line ≡ b → is_ascii line ≡ c → cond b (Ok d) (cond (not c) (Err kinds.BadForm) (words_line d (words_of line))) ≡ Ok e → Adds d e (words_of line)
+adds_by : (d e : NetworkSoFar) (line : Text) (b c : Bool) → is_skipped line ≡ b → is_ascii line ≡ c → cond b (Ok d) (cond (not c) (Err kinds.BadForm) (words_line d (words_of line))) ≡ Ok e → Adds d e (words_of line)
 adds_by d e line true c is ascii h =
     let same_draft : d ≡ e = cc in
     inr (inr (inr (inr (record {
       router = λ a b. no_words (words_of line) (codes "router") (a ∷ b ∷ []) is refl;
       link = λ a b. no_words (words_of line) (codes "link") (a ∷ b ∷ []) is refl;
       origin = λ a b. no_words (words_of line) (codes "origin") (a ∷ b ∷ []) is refl;
-      new = ap (λ (x : Draft). x.net) (sym same_draft);
+      new = ap (λ (x : NetworkSoFar). x.net) (sym same_draft);
     }))))
 adds_by d e line false false is ascii h = absurd cc
 adds_by d e line false true is ascii h = words_add d e (words_of line) h
 
-pub adds : (d e : Draft) (line : Text) → line_reading d line ≡ Ok e → Adds d e (words_of line)
+pub adds : (d e : NetworkSoFar) (line : Text) → line_reading d line ≡ Ok e → Adds d e (words_of line)
 adds d e line h = adds_by d e line (is_skipped line) (is_ascii line) refl refl h

@@ -3,14 +3,14 @@ use Rattle.std.proofs.Common.{◌≡◌, ℕ, ◌+◌, ◌==◌, Bool, true, fal
 use Rattle.std.specs.Prelude.{codes, ◌↔◌}
 use mathlib.Core.Logic.{◌⊎◌}
 use Rattle.prefix_lanes.specs.Bits.{PrefixView}
-use Rattle.ranked_policy.specs.declared.network.Router.{Router}
+use Rattle.ranked_policy.specs.declared.network.NetRouter.{NetRouter}
 use Rattle.ranked_policy.specs.declared.network.Link.{Link}
 use Rattle.ranked_policy.specs.declared.network.Origin.{Origin}
-use Rattle.ranked_policy.specs.declared.network.Rule.{Rule}
+use Rattle.ranked_policy.specs.declared.network.RankRule.{RankRule}
 use Rattle.ranked_policy.specs.Plans.{Plan}
 use Rattle.bgp_values.specs.declared.width.Width.TheVariants.{Four}
 use Rattle.net_text.specs.declared.code.Code.{Code}
-use Rattle.net_text.specs.declared.draft.Draft.{Draft}
+use Rattle.net_text.specs.declared.network_so_far.NetworkSoFar.{NetworkSoFar}
 use Rattle.net_text.specs.Lexing.{Text, same, words_of}
 use Rattle.net_text.specs.Layout.{HasWords}
 use Rattle.net_text.specs.Words.{asn_word, id_word, prefix_word}
@@ -54,26 +54,26 @@ module _ {X : Type 0} (Is : X → Type 0) where
 -- ---- one thing, line by line
 
 -- what a draft has of one kind, and which lines name one
-module _ {X : Type 0} (Is : X → Type 0) (items : Draft → List X) (Names : Text → Type 0) where
+module _ {X : Type 0} (Is : X → Type 0) (items : NetworkSoFar → List X) (Names : Text → Type 0) where
   -- a line adds it, where it names it
   abbrev Goes : Type 0
-  Goes = (d e : Draft) (line : Text) → line_reading d line ≡ Ok e → AnyOf Is (items e) ↔ (AnyOf Is (items d) ⊎ Names line)
+  Goes = (d e : NetworkSoFar) (line : Text) → line_reading d line ≡ Ok e → AnyOf Is (items e) ↔ (AnyOf Is (items d) ⊎ Names line)
 
-  unchanged : (d e : Draft) (line : Text) → items e ≡ items d → (Names line → ⊥) → AnyOf Is (items e) ↔ (AnyOf Is (items d) ⊎ Names line)
+  unchanged : (d e : NetworkSoFar) (line : Text) → items e ≡ items d → (Names line → ⊥) → AnyOf Is (items e) ↔ (AnyOf Is (items d) ⊎ Names line)
   unchanged d e line same none = (
     λ k. inl (subst (AnyOf Is) same k),
     λ k. elim k [ inl old ↦ subst (AnyOf Is) (sym same) old | inr new ↦ absurd (none new) ],
   )
 
-  gained : (d e : Draft) (line : Text) (item : X) → (AnyOf Is (items e) ↔ Is item ⊎ AnyOf Is (items d)) → (Is item ↔ Names line) → AnyOf Is (items e) ↔ (AnyOf Is (items d) ⊎ Names line)
+  gained : (d e : NetworkSoFar) (line : Text) (item : X) → (AnyOf Is (items e) ↔ Is item ⊎ AnyOf Is (items d)) → (Is item ↔ Names line) → AnyOf Is (items e) ↔ (AnyOf Is (items d) ⊎ Names line)
   gained d e line item has names = (
     λ k. elim (has.0 k) [ inl new ↦ inr (names.0 new) | inr old ↦ inl old ],
     λ k. elim k [ inl old ↦ has.1 (inr old) | inr new ↦ has.1 (inl (names.1 new)) ],
   )
 
   module _ (goes : Goes) where
-    lines_by : (d end : Draft) (before : ℕ) (line : Text) (lines : List Text) (r : Result Draft Code) → line_reading d line ≡ r
-        → ((e : Draft) → reading (λ at x words. line_reading x words) (before + 1) e lines ≡ Ok end → AnyOf Is (items end) ↔ (AnyOf Is (items e) ⊎ AnyOf Names lines))
+    lines_by : (d end : NetworkSoFar) (before : ℕ) (line : Text) (lines : List Text) (r : Result NetworkSoFar Code) → line_reading d line ≡ r
+        → ((e : NetworkSoFar) → reading (λ at x words. line_reading x words) (before + 1) e lines ≡ Ok end → AnyOf Is (items end) ↔ (AnyOf Is (items e) ⊎ AnyOf Names lines))
         → then_on (before + 1) r (λ e. reading (λ at x words. line_reading x words) (before + 1) e lines) ≡ Ok end
         → AnyOf Is (items end) ↔ (AnyOf Is (items d) ⊎ (Names line ⊎ AnyOf Names lines))
     lines_by d end before line lines (Err code) is rest h = absurd cc
@@ -87,16 +87,16 @@ module _ {X : Type 0} (Is : X → Type 0) (items : Draft → List X) (Names : Te
           ],
         )
 
-    all_lines : (lines : List Text) (d end : Draft) (before : ℕ) → reading (λ at x words. line_reading x words) before d lines ≡ Ok end
+    all_lines : (lines : List Text) (d end : NetworkSoFar) (before : ℕ) → reading (λ at x words. line_reading x words) before d lines ≡ Ok end
         → AnyOf Is (items end) ↔ (AnyOf Is (items d) ⊎ AnyOf Names lines)
     all_lines [] d end before h =
         let same_draft : d ≡ end = cc in (
-          λ k. inl (subst (λ (x : Draft). AnyOf Is (items x)) (sym same_draft) k),
-          λ k. elim k [ inl old ↦ subst (λ (x : Draft). AnyOf Is (items x)) same_draft old | inr none ↦ absurd none ],
+          λ k. inl (subst (λ (x : NetworkSoFar). AnyOf Is (items x)) (sym same_draft) k),
+          λ k. elim k [ inl old ↦ subst (λ (x : NetworkSoFar). AnyOf Is (items x)) same_draft old | inr none ↦ absurd none ],
         )
     all_lines (line ∷ lines) d end before h = lines_by d end before line lines (line_reading d line) refl (λ e k. all_lines lines e end (before + 1) k) h
 
-    from_nothing : (lines : List Text) (d end : Draft) (before : ℕ) → items d ≡ [] → reading (λ at x words. line_reading x words) before d lines ≡ Ok end → AnyOf Is (items end) ↔ AnyOf Names lines
+    from_nothing : (lines : List Text) (d end : NetworkSoFar) (before : ℕ) → items d ≡ [] → reading (λ at x words. line_reading x words) before d lines ≡ Ok end → AnyOf Is (items end) ↔ AnyOf Names lines
     from_nothing lines d end before none h =
         let all = all_lines lines d end before h in (
           λ k. elim (all.0 k) [ inl old ↦ absurd (subst (AnyOf Is) none old) | inr named ↦ named ],
@@ -122,15 +122,15 @@ one_reading read a x u v e h k =
 
 -- ---- routers
 
-ruled_by : (u id v : ℕ) (rule : Rule) (r : Router) (b : Bool) → ((cond b (record r { rules = r.rules ++ rule ∷ [] }) r).asn ≡ u) × ((cond b (record r { rules = r.rules ++ rule ∷ [] }) r).id ≡ id) ↔ (r.asn ≡ u) × (r.id ≡ id)
+ruled_by : (u id v : ℕ) (rule : RankRule) (r : NetRouter) (b : Bool) → ((cond b (record r { rules = r.rules ++ rule ∷ [] }) r).asn ≡ u) × ((cond b (record r { rules = r.rules ++ rule ∷ [] }) r).id ≡ id) ↔ (r.asn ≡ u) × (r.id ≡ id)
 ruled_by u id v rule r true = (λ k. k, λ k. k)
 ruled_by u id v rule r false = (λ k. k, λ k. k)
 
 module _ (u id : ℕ) where
-  abbrev IsIt : Router → Type 0
+  abbrev IsIt : NetRouter → Type 0
   IsIt r = (r.asn ≡ u) × (r.id ≡ id)
 
-  names_router : (line : Text) (d e : Draft) (h : AddsRouter d e (words_of line)) → IsIt (new_router h.u h.id) ↔ NamesRouter u id line
+  names_router : (line : Text) (d e : NetworkSoFar) (h : AddsRouter d e (words_of line)) → IsIt (new_router h.u h.id) ↔ NamesRouter u id line
   names_router line d e h = (
     λ k. (h.a, h.b, has_words line _ h.are, h.one ∙ ap (λ (n : ℕ). Ok n) k.0, h.other ∙ ap (λ (n : ℕ). Ok n) k.1),
     λ k. let same_words = two_words (codes "router") h.a h.b k.0 k.1 (sym h.are ∙ sym (here_words line _ k.2)) in
@@ -144,16 +144,16 @@ module _ (u id : ℕ) where
   router_goes d e line h =
       elim (adds d e line h) [
         | inl r ↦ gained IsIt (λ d. d.net.routers) (NamesRouter u id) d e line (new_router r.u r.id)
-            (subst (λ (x : Draft). AnyOf IsIt x.net.routers ↔ IsIt (new_router r.u r.id) ⊎ AnyOf IsIt d.net.routers) r.new (among_has IsIt is_below d.net.routers (new_router r.u r.id)))
+            (subst (λ (x : NetworkSoFar). AnyOf IsIt x.net.routers ↔ IsIt (new_router r.u r.id) ⊎ AnyOf IsIt d.net.routers) r.new (among_has IsIt is_below d.net.routers (new_router r.u r.id)))
             (names_router line d e r)
         | inr k ↦ elim k [
-          | inl l ↦ unchanged IsIt (λ d. d.net.routers) (NamesRouter u id) d e line (ap (λ (x : Draft). x.net.routers) (sym l.new)) (not_named line _ _ l.are refl)
+          | inl l ↦ unchanged IsIt (λ d. d.net.routers) (NamesRouter u id) d e line (ap (λ (x : NetworkSoFar). x.net.routers) (sym l.new)) (not_named line _ _ l.are refl)
           | inr k ↦ elim k [
-            | inl o ↦ unchanged IsIt (λ d. d.net.routers) (NamesRouter u id) d e line (ap (λ (x : Draft). x.net.routers) (sym o.new)) (not_named line _ _ o.are refl)
+            | inl o ↦ unchanged IsIt (λ d. d.net.routers) (NamesRouter u id) d e line (ap (λ (x : NetworkSoFar). x.net.routers) (sym o.new)) (not_named line _ _ o.are refl)
             | inr k ↦ elim k [
               | inl r ↦ (
                   let kept = map_has IsIt (ruled r.u (record { prefix = r.q; paths = r.paths })) (λ x. ruled_by u id r.u (record { prefix = r.q; paths = r.paths }) x (x.asn == r.u)) d.net.routers in
-                  let all = subst (λ (x : Draft). AnyOf IsIt x.net.routers ↔ AnyOf IsIt d.net.routers) r.new kept in
+                  let all = subst (λ (x : NetworkSoFar). AnyOf IsIt x.net.routers ↔ AnyOf IsIt d.net.routers) r.new kept in
                   (λ has. inl (all.0 has), λ has. elim has [ inl old ↦ all.1 old | inr new ↦ absurd (not_named line _ _ r.are refl new) ])
                   )
               | inr n ↦ unchanged IsIt (λ d. d.net.routers) (NamesRouter u id) d e line (ap (λ (x : Plan). x.routers) n.new) (λ k. n.router k.0 k.1 (sym (here_words line _ k.2)))
@@ -168,7 +168,7 @@ module _ (u v : ℕ) where
   abbrev IsThat : Link → Type 0
   IsThat l = (l.one ≡ u) × (l.other ≡ v)
 
-  names_link : (line : Text) (d e : Draft) (h : AddsLink d e (words_of line)) → IsThat (record { one = h.u; other = h.v }) ↔ NamesLink u v line
+  names_link : (line : Text) (d e : NetworkSoFar) (h : AddsLink d e (words_of line)) → IsThat (record { one = h.u; other = h.v }) ↔ NamesLink u v line
   names_link line d e h = (
     λ k. (h.a, h.b, has_words line _ h.are, h.one ∙ ap (λ (n : ℕ). Ok n) k.0, h.other ∙ ap (λ (n : ℕ). Ok n) k.1),
     λ k. let same_words = two_words (codes "link") h.a h.b k.0 k.1 (sym h.are ∙ sym (here_words line _ k.2)) in
@@ -181,15 +181,15 @@ module _ (u v : ℕ) where
   link_goes : Goes IsThat (λ d. d.net.links) (NamesLink u v)
   link_goes d e line h =
       elim (adds d e line h) [
-        | inl r ↦ unchanged IsThat (λ d. d.net.links) (NamesLink u v) d e line (ap (λ (x : Draft). x.net.links) (sym r.new)) (no_link line _ _ r.are refl)
+        | inl r ↦ unchanged IsThat (λ d. d.net.links) (NamesLink u v) d e line (ap (λ (x : NetworkSoFar). x.net.links) (sym r.new)) (no_link line _ _ r.are refl)
         | inr k ↦ elim k [
           | inl l ↦ gained IsThat (λ d. d.net.links) (NamesLink u v) d e line (record { one = l.u; other = l.v })
-              (subst (λ (x : Draft). AnyOf IsThat x.net.links ↔ IsThat (record { one = l.u; other = l.v }) ⊎ AnyOf IsThat d.net.links) l.new (behind_has IsThat d.net.links (record { one = l.u; other = l.v })))
+              (subst (λ (x : NetworkSoFar). AnyOf IsThat x.net.links ↔ IsThat (record { one = l.u; other = l.v }) ⊎ AnyOf IsThat d.net.links) l.new (behind_has IsThat d.net.links (record { one = l.u; other = l.v })))
               (names_link line d e l)
           | inr k ↦ elim k [
-            | inl o ↦ unchanged IsThat (λ d. d.net.links) (NamesLink u v) d e line (ap (λ (x : Draft). x.net.links) (sym o.new)) (no_link line _ _ o.are refl)
+            | inl o ↦ unchanged IsThat (λ d. d.net.links) (NamesLink u v) d e line (ap (λ (x : NetworkSoFar). x.net.links) (sym o.new)) (no_link line _ _ o.are refl)
             | inr k ↦ elim k [
-              | inl r ↦ unchanged IsThat (λ d. d.net.links) (NamesLink u v) d e line (ap (λ (x : Draft). x.net.links) (sym r.new)) (no_link line _ _ r.are refl)
+              | inl r ↦ unchanged IsThat (λ d. d.net.links) (NamesLink u v) d e line (ap (λ (x : NetworkSoFar). x.net.links) (sym r.new)) (no_link line _ _ r.are refl)
               | inr n ↦ unchanged IsThat (λ d. d.net.links) (NamesLink u v) d e line (ap (λ (x : Plan). x.links) n.new) (λ k. n.link k.0 k.1 (sym (here_words line _ k.2)))
             ]
           ]
@@ -202,7 +202,7 @@ module _ (u : ℕ) (q : PrefixView) where
   abbrev IsHere : Origin → Type 0
   IsHere o = (o.router ≡ u) × (o.prefix ≡ q)
 
-  names_origin : (line : Text) (d e : Draft) (h : AddsOrigin d e (words_of line)) → IsHere (new_origin h.u h.q) ↔ NamesOrigin u q line
+  names_origin : (line : Text) (d e : NetworkSoFar) (h : AddsOrigin d e (words_of line)) → IsHere (new_origin h.u h.q) ↔ NamesOrigin u q line
   names_origin line d e h = (
     λ k. (h.a, h.b, has_words line _ h.are, h.one ∙ ap (λ (n : ℕ). Ok n) k.0, h.other ∙ ap (λ (p : PrefixView). Ok p) k.1),
     λ k. let same_words = two_words (codes "origin") h.a h.b k.0 k.1 (sym h.are ∙ sym (here_words line _ k.2)) in
@@ -215,15 +215,15 @@ module _ (u : ℕ) (q : PrefixView) where
   origin_goes : Goes IsHere (λ d. d.net.origins) (NamesOrigin u q)
   origin_goes d e line h =
       elim (adds d e line h) [
-        | inl r ↦ unchanged IsHere (λ d. d.net.origins) (NamesOrigin u q) d e line (ap (λ (x : Draft). x.net.origins) (sym r.new)) (no_origin line _ _ r.are refl)
+        | inl r ↦ unchanged IsHere (λ d. d.net.origins) (NamesOrigin u q) d e line (ap (λ (x : NetworkSoFar). x.net.origins) (sym r.new)) (no_origin line _ _ r.are refl)
         | inr k ↦ elim k [
-          | inl l ↦ unchanged IsHere (λ d. d.net.origins) (NamesOrigin u q) d e line (ap (λ (x : Draft). x.net.origins) (sym l.new)) (no_origin line _ _ l.are refl)
+          | inl l ↦ unchanged IsHere (λ d. d.net.origins) (NamesOrigin u q) d e line (ap (λ (x : NetworkSoFar). x.net.origins) (sym l.new)) (no_origin line _ _ l.are refl)
           | inr k ↦ elim k [
             | inl o ↦ gained IsHere (λ d. d.net.origins) (NamesOrigin u q) d e line (new_origin o.u o.q)
-                (subst (λ (x : Draft). AnyOf IsHere x.net.origins ↔ IsHere (new_origin o.u o.q) ⊎ AnyOf IsHere d.net.origins) o.new (among_has IsHere comes_before d.net.origins (new_origin o.u o.q)))
+                (subst (λ (x : NetworkSoFar). AnyOf IsHere x.net.origins ↔ IsHere (new_origin o.u o.q) ⊎ AnyOf IsHere d.net.origins) o.new (among_has IsHere comes_before d.net.origins (new_origin o.u o.q)))
                 (names_origin line d e o)
             | inr k ↦ elim k [
-              | inl r ↦ unchanged IsHere (λ d. d.net.origins) (NamesOrigin u q) d e line (ap (λ (x : Draft). x.net.origins) (sym r.new)) (no_origin line _ _ r.are refl)
+              | inl r ↦ unchanged IsHere (λ d. d.net.origins) (NamesOrigin u q) d e line (ap (λ (x : NetworkSoFar). x.net.origins) (sym r.new)) (no_origin line _ _ r.are refl)
               | inr n ↦ unchanged IsHere (λ d. d.net.origins) (NamesOrigin u q) d e line (ap (λ (x : Plan). x.origins) n.new) (λ k. n.origin k.0 k.1 (sym (here_words line _ k.2)))
             ]
           ]
@@ -232,7 +232,7 @@ module _ (u : ℕ) (q : PrefixView) where
 
 pub networks_have_what_is_named : NetworksHaveWhatIsNamed
 networks_have_what_is_named lines net h =
-    let end : Draft = record { named = h.named; net = net } in
+    let end : NetworkSoFar = record { named = h.named; net = net } in
     record {
       routers = λ u id. from_nothing (IsIt u id) (λ d. d.net.routers) (NamesRouter u id) (router_goes u id) lines (empty_draft lines) end 0 refl h.whole;
       links = λ u v. from_nothing (IsThat u v) (λ d. d.net.links) (NamesLink u v) (link_goes u v) lines (empty_draft lines) end 0 refl h.whole;

@@ -5,14 +5,14 @@ use Rattle.std.proofs.lemmas.List.{length-map, get_or-map}
 use Rattle.std.proofs.lemmas.List.Elements.{All-head, All-tail}
 use Rattle.std.proofs.lemmas.Bool.{cond-true, cond-false, lt-ltb, le-ltb, eq-eqb, ne_eqb, or_left, or_right, or_from, and_from, and_left, and_right}
 use Rattle.prefix_lanes.specs.Bits.{PrefixView}
-use Rattle.ranked_policy.specs.declared.network.Router.{Router}
+use Rattle.ranked_policy.specs.declared.network.NetRouter.{NetRouter}
 use Rattle.ranked_policy.specs.declared.network.Origin.{Origin}
-use Rattle.ranked_policy.specs.declared.network.Rule.{Rule}
+use Rattle.ranked_policy.specs.declared.network.RankRule.{RankRule}
 use Rattle.ranked_policy.specs.declared.network.Settings.{Settings}
 use Rattle.ranked_policy.specs.declared.network.Link.{Link}
 use Rattle.ranked_policy.specs.Plans.{Plan, IsPlan, numbers, IsBefore}
 use Rattle.ranked_policy.specs.Adding.{Gains, Changes, AddsRouter, AddsOrigin, AddsRule}
-use Rattle.net_text.specs.declared.draft.Draft.{Draft}
+use Rattle.net_text.specs.declared.network_so_far.NetworkSoFar.{NetworkSoFar}
 use Rattle.net_text.specs.Lines.{among, is_below, comes_before, ruled, new_router, new_origin, with_router, with_origin, with_rule}
 
 at_place : {X : Type 0} (r d : X) (xs ys : List X) → get_or (xs ++ r ∷ ys) (length xs) d ≡ r
@@ -49,13 +49,13 @@ placed {X = X} R t before behind (x ∷ xs) ys r pairs =
 
 -- ---- routers
 
-pub router_placed : (old new : List Router) (router : Router) → AllPairs (λ u v. u < v) (numbers new) → Gains old new router → new ≡ among is_below old router
+pub router_placed : (old new : List NetRouter) (router : NetRouter) → AllPairs (λ u v. u < v) (numbers new) → Gains old new router → new ≡ among is_below old router
 router_placed old new router rising g =
-    let pairs : AllPairs (λ (r s : Router). r.asn < s.asn) (g.before ++ router ∷ g.behind) =
-    pairs_unmap (λ (r : Router). r.asn) (λ u v. u < v) (g.before ++ router ∷ g.behind) (subst (λ (rs : List Router). AllPairs (λ u v. u < v) (numbers rs)) g.is rising) in
+    let pairs : AllPairs (λ (r s : NetRouter). r.asn < s.asn) (g.before ++ router ∷ g.behind) =
+    pairs_unmap (λ (r : NetRouter). r.asn) (λ u v. u < v) (g.before ++ router ∷ g.behind) (subst (λ (rs : List NetRouter). AllPairs (λ u v. u < v) (numbers rs)) g.is rising) in
     g.is
-    ∙ placed (λ (r s : Router). r.asn < s.asn) is_below (λ r s l. lt-ltb r.asn s.asn l) (λ r s l. le-ltb s.asn r.asn (omega (arith, l))) g.before g.behind router pairs
-    ∙ ap (λ (rs : List Router). among is_below rs router) (sym g.was)
+    ∙ placed (λ (r s : NetRouter). r.asn < s.asn) is_below (λ r s l. lt-ltb r.asn s.asn l) (λ r s l. le-ltb s.asn r.asn (omega (arith, l))) g.before g.behind router pairs
+    ∙ ap (λ (rs : List NetRouter). among is_below rs router) (sym g.was)
 
 -- ---- origins
 
@@ -79,53 +79,53 @@ origin_placed old new origin rising g =
 
 -- ---- rules
 
-others_stay : (u : ℕ) (rule : Rule) (xs : List Router) → All (λ r. u < r.asn) xs → map (ruled u rule) xs ≡ xs
+others_stay : (u : ℕ) (rule : RankRule) (xs : List NetRouter) → All (λ r. u < r.asn) xs → map (ruled u rule) xs ≡ xs
 others_stay u rule [] above = refl
 others_stay u rule (x ∷ xs) above =
-    let h : u < x.asn = All-head (λ (r : Router). u < r.asn) x xs above in
-    ap (λ (r : Router). r ∷ map (ruled u rule) xs) (cond-false (x.asn == u) _ _ (ne_eqb x.asn u (λ e. omega (arith, h, e))))
-    ∙ ap (λ (rs : List Router). x ∷ rs) (others_stay u rule xs (All-tail (λ (r : Router). u < r.asn) x xs above))
+    let h : u < x.asn = All-head (λ (r : NetRouter). u < r.asn) x xs above in
+    ap (λ (r : NetRouter). r ∷ map (ruled u rule) xs) (cond-false (x.asn == u) _ _ (ne_eqb x.asn u (λ e. omega (arith, h, e))))
+    ∙ ap (λ (rs : List NetRouter). x ∷ rs) (others_stay u rule xs (All-tail (λ (r : NetRouter). u < r.asn) x xs above))
 
-rule_placed_in : (u : ℕ) (rule : Rule) (r s : Router) (xs ys : List Router) → r.asn ≡ u → s.asn ≡ u → s ≡ record r { rules = r.rules ++ rule ∷ [] } → AllPairs (λ r s. r.asn < s.asn) (xs ++ s ∷ ys)
+rule_placed_in : (u : ℕ) (rule : RankRule) (r s : NetRouter) (xs ys : List NetRouter) → r.asn ≡ u → s.asn ≡ u → s ≡ record r { rules = r.rules ++ rule ∷ [] } → AllPairs (λ r s. r.asn < s.asn) (xs ++ s ∷ ys)
     → xs ++ s ∷ ys ≡ map (ruled u rule) (xs ++ r ∷ ys)
 rule_placed_in u rule r s [] ys e f is pairs =
-    let above : All (λ (t : Router). u < t.asn) ys = subst (λ n. All (λ (t : Router). n < t.asn) ys) f (pairs_head (λ (r s : Router). r.asn < s.asn) s ys pairs) in
-    ap (λ (t : Router). t ∷ ys) (is ∙ sym (cond-true (r.asn == u) _ _ (eq-eqb r.asn u e))) ∙ ap (λ (ts : List Router). ruled u rule r ∷ ts) (sym (others_stay u rule ys above))
+    let above : All (λ (t : NetRouter). u < t.asn) ys = subst (λ n. All (λ (t : NetRouter). n < t.asn) ys) f (pairs_head (λ (r s : NetRouter). r.asn < s.asn) s ys pairs) in
+    ap (λ (t : NetRouter). t ∷ ys) (is ∙ sym (cond-true (r.asn == u) _ _ (eq-eqb r.asn u e))) ∙ ap (λ (ts : List NetRouter). ruled u rule r ∷ ts) (sym (others_stay u rule ys above))
 rule_placed_in u rule r s (x ∷ xs) ys e f is pairs =
-    let l : x.asn < s.asn = pair_behind (λ (r s : Router). r.asn < s.asn) x s xs ys pairs in
-    ap (λ (ts : List Router). x ∷ ts) (rule_placed_in u rule r s xs ys e f is (pairs_tail (λ (r s : Router). r.asn < s.asn) x (xs ++ s ∷ ys) pairs))
-    ∙ ap (λ (t : Router). t ∷ map (ruled u rule) (xs ++ r ∷ ys)) (sym (cond-false (x.asn == u) _ _ (ne_eqb x.asn u (λ g. omega (arith, l, f, g)))))
+    let l : x.asn < s.asn = pair_behind (λ (r s : NetRouter). r.asn < s.asn) x s xs ys pairs in
+    ap (λ (ts : List NetRouter). x ∷ ts) (rule_placed_in u rule r s xs ys e f is (pairs_tail (λ (r s : NetRouter). r.asn < s.asn) x (xs ++ s ∷ ys) pairs))
+    ∙ ap (λ (t : NetRouter). t ∷ map (ruled u rule) (xs ++ r ∷ ys)) (sym (cond-false (x.asn == u) _ _ (ne_eqb x.asn u (λ g. omega (arith, l, f, g)))))
 
-pub rule_placed : (old new : List Router) (u : ℕ) (rule : Rule) (r : Router) → r.asn ≡ u → AllPairs (λ u v. u < v) (numbers new) → Changes old new r (record r { rules = r.rules ++ rule ∷ [] })
+pub rule_placed : (old new : List NetRouter) (u : ℕ) (rule : RankRule) (r : NetRouter) → r.asn ≡ u → AllPairs (λ u v. u < v) (numbers new) → Changes old new r (record r { rules = r.rules ++ rule ∷ [] })
     → new ≡ map (ruled u rule) old
 rule_placed old new u rule r e rising g =
-    let s : Router = record r { rules = r.rules ++ rule ∷ [] } in
-    let pairs : AllPairs (λ (r s : Router). r.asn < s.asn) (g.before ++ s ∷ g.behind) =
-    pairs_unmap (λ (r : Router). r.asn) (λ u v. u < v) (g.before ++ s ∷ g.behind) (subst (λ (rs : List Router). AllPairs (λ u v. u < v) (numbers rs)) g.second rising) in
+    let s : NetRouter = record r { rules = r.rules ++ rule ∷ [] } in
+    let pairs : AllPairs (λ (r s : NetRouter). r.asn < s.asn) (g.before ++ s ∷ g.behind) =
+    pairs_unmap (λ (r : NetRouter). r.asn) (λ u v. u < v) (g.before ++ s ∷ g.behind) (subst (λ (rs : List NetRouter). AllPairs (λ u v. u < v) (numbers rs)) g.second rising) in
     g.second ∙ rule_placed_in u rule r s g.before g.behind e e refl pairs ∙ ap (map (ruled u rule)) (sym g.first)
 
 -- ---- the drafts that the calls leave
 
-plan_same : (p : Plan) (settings : Settings) (routers : List Router) (links : List Link) (origins : List Origin) → p.settings ≡ settings → p.routers ≡ routers → p.links ≡ links → p.origins ≡ origins
+plan_same : (p : Plan) (settings : Settings) (routers : List NetRouter) (links : List Link) (origins : List Origin) → p.settings ≡ settings → p.routers ≡ routers → p.links ≡ links → p.origins ≡ origins
     → p ≡ record { settings = settings; routers = routers; links = links; origins = origins }
 plan_same p settings routers links origins s r l o =
     ap (λ (x : Settings). record { settings = x; routers = p.routers; links = p.links; origins = p.origins }) s
-    ∙ ap (λ (x : List Router). record { settings = settings; routers = x; links = p.links; origins = p.origins }) r
+    ∙ ap (λ (x : List NetRouter). record { settings = settings; routers = x; links = p.links; origins = p.origins }) r
     ∙ ap (λ (x : List Link). record { settings = settings; routers = routers; links = x; origins = p.origins }) l
     ∙ ap (λ (x : List Origin). record { settings = settings; routers = routers; links = links; origins = x }) o
 
-pub with_router_is : (d : Draft) (new : Plan) (u id : ℕ) → IsPlan new → AddsRouter d.net new u id → record d { net = new } ≡ with_router d u id
+pub with_router_is : (d : NetworkSoFar) (new : Plan) (u id : ℕ) → IsPlan new → AddsRouter d.net new u id → record d { net = new } ≡ with_router d u id
 with_router_is d new u id plan added =
     ap (λ (p : Plan). record d { net = p })
     (plan_same new d.net.settings (among is_below d.net.routers (new_router u id)) d.net.links d.net.origins added.settings (router_placed d.net.routers new.routers (new_router u id) plan.rising added.routers) added.links added.origins)
 
-pub with_origin_is : (d : Draft) (new : Plan) (u : ℕ) (q : PrefixView) → IsPlan new → AddsOrigin d.net new u q → record d { net = new } ≡ with_origin d u q
+pub with_origin_is : (d : NetworkSoFar) (new : Plan) (u : ℕ) (q : PrefixView) → IsPlan new → AddsOrigin d.net new u q → record d { net = new } ≡ with_origin d u q
 with_origin_is d new u q plan added =
     ap (λ (p : Plan). record d { net = p })
     (plan_same new d.net.settings d.net.routers d.net.links (among comes_before d.net.origins (new_origin u q)) added.settings added.routers added.links (origin_placed d.net.origins new.origins (new_origin u q) plan.origins.rising added.origins))
 
-pub with_rule_is : (d : Draft) (new : Plan) (u : ℕ) (q : PrefixView) (paths : List (List ℕ)) → IsPlan new → AddsRule d.net new u q paths → record d { net = new } ≡ with_rule d u q paths
+pub with_rule_is : (d : NetworkSoFar) (new : Plan) (u : ℕ) (q : PrefixView) (paths : List (List ℕ)) → IsPlan new → AddsRule d.net new u q paths → record d { net = new } ≡ with_rule d u q paths
 with_rule_is d new u q paths plan added =
-    let rule : Rule = record { prefix = q; paths = paths } in
+    let rule : RankRule = record { prefix = q; paths = paths } in
     ap (λ (p : Plan). record d { net = p })
     (plan_same new d.net.settings (map (ruled u rule) d.net.routers) d.net.links d.net.origins added.settings (rule_placed d.net.routers new.routers u rule added.routers.0 added.routers.1 plan.rising added.routers.2) added.links added.origins)

@@ -5,7 +5,7 @@ use Rattle.std.specs.Prelude.{IfOk, IfErr}
 use Rattle.ranked_policy.specs.Plans.{Plan, IsNetwork}
 use Rattle.net_text.specs.declared.code.Code.{Code}
 use Rattle.net_text.specs.declared.code.Code.TheVariants as codes
-use Rattle.net_text.specs.declared.draft.Draft.{Draft}
+use Rattle.net_text.specs.declared.network_so_far.NetworkSoFar.{NetworkSoFar}
 use Rattle.net_text.specs.declared.assignment.Entry.{Entry}
 use Rattle.net_text.specs.Lexing.{Text, lines_of}
 use Rattle.net_text.specs.Lines.{line_reading}
@@ -14,14 +14,14 @@ use Rattle.net_text.specs.Assignments.{entry_reading, RefusesAssignment}
 use Rattle.net_text.specs.Steps.{Refuses}
 use Rattle.net_text.proofs.TextLemmas.{Reached, reached_fault, reached_memory}
 
-abbrev pub network_line : ℕ → Draft → Text → Result Draft Code
+abbrev pub network_line : ℕ → NetworkSoFar → Text → Result NetworkSoFar Code
 network_line line d words = line_reading d words
 
-abbrev pub NetworkReached : List Text → ℕ → Draft → List Text → Type 0
+abbrev pub NetworkReached : List Text → ℕ → NetworkSoFar → List Text → Type 0
 NetworkReached lines line made left = Reached (λ line d words. line_reading d words) 0 (empty_draft lines) lines line made left
 
 -- a line's refusal is the text's
-pub refuses_network : (lines left rest : List Text) (line : ℕ) (made : Draft) (next : Text) (code : Code) → left ≡ next ∷ rest → NetworkReached lines line made left
+pub refuses_network : (lines left rest : List Text) (line : ℕ) (made : NetworkSoFar) (next : Text) (code : Code) → left ≡ next ∷ rest → NetworkReached lines line made left
     → Refuses code (line_reading made next) → RefusesNetwork lines (line + 1) code
 refuses_network lines left rest line made next codes.Memory l h e = reached_memory (λ line d words. line_reading d words) 0 (empty_draft lines) made lines left rest line next l h e
 refuses_network lines left rest line made next codes.BadForm l h e = inl (reached_fault (λ line d words. line_reading d words) 0 (empty_draft lines) made lines left rest line next codes.BadForm l h e)
@@ -34,12 +34,12 @@ refuses_network lines left rest line made next codes.NotSimple l h e = inl (reac
 refuses_network lines left rest line made next codes.BadPrefix l h e = inl (reached_fault (λ line d words. line_reading d words) 0 (empty_draft lines) made lines left rest line next codes.BadPrefix l h e)
 refuses_network lines left rest line made next codes.NotPermitted l h e = inl (reached_fault (λ line d words. line_reading d words) 0 (empty_draft lines) made lines left rest line next codes.NotPermitted l h e)
 
-pub spells_network : (lines : List Text) (draft : Draft) (net : Plan) → draft_reading lines ≡ Ok draft → net ≡ draft.net → IsNetwork net → SpellsNetwork lines net
+pub spells_network : (lines : List Text) (draft : NetworkSoFar) (net : Plan) → draft_reading lines ≡ Ok draft → net ≡ draft.net → IsNetwork net → SpellsNetwork lines net
 spells_network lines draft net whole is network =
     record { named = draft.named; whole = whole ∙ ap (λ (p : Plan). Ok (record { named = draft.named; net = p })) (sym is); network = network }
 
 -- a whole that is no network
-pub fails_network : (lines : List Text) (draft : Draft) (line : ℕ) (code : Code) → draft_reading lines ≡ Ok draft → line ≡ last_line lines → FailsAsNetwork draft.net code → RefusesNetwork lines line code
+pub fails_network : (lines : List Text) (draft : NetworkSoFar) (line : ℕ) (code : Code) → draft_reading lines ≡ Ok draft → line ≡ last_line lines → FailsAsNetwork draft.net code → RefusesNetwork lines line code
 fails_network lines draft line code whole last fault =
     let none : IsNoNetwork lines code = record { draft = draft; whole = whole; fault = fault } in
     elim fault [

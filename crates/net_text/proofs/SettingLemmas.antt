@@ -4,7 +4,7 @@ use Rattle.std.proofs.lemmas.Bool.{leb-true}
 use Rattle.ranked_policy.specs.Plans.{Plan}
 use Rattle.ranked_policy.specs.declared.network.Settings.{Settings}
 use Rattle.net_text.specs.declared.code.Code.{Code}
-use Rattle.net_text.specs.declared.draft.Draft.{Draft}
+use Rattle.net_text.specs.declared.network_so_far.NetworkSoFar.{NetworkSoFar}
 use Rattle.net_text.specs.declared.settings.Setting.{Setting}
 use Rattle.net_text.specs.declared.settings.Setting.TheVariants.{Hold, Restart, Cut, Pipe, Octets}
 use Rattle.net_text.specs.Lexing.{Text, words_of}
@@ -18,33 +18,33 @@ use Rattle.net_text.proofs.AddingLemmas.{adds}
 
 -- ---- no line changes them: they are those of the whole text
 
-line_keeps : (d e : Draft) (line : Text) → line_reading d line ≡ Ok e → e.net.settings ≡ d.net.settings
+line_keeps : (d e : NetworkSoFar) (line : Text) → line_reading d line ≡ Ok e → e.net.settings ≡ d.net.settings
 line_keeps d e line h =
     elim (adds d e line h) [
-      | inl r ↦ ap (λ (x : Draft). x.net.settings) (sym r.new)
+      | inl r ↦ ap (λ (x : NetworkSoFar). x.net.settings) (sym r.new)
       | inr k ↦ elim k [
-        | inl l ↦ ap (λ (x : Draft). x.net.settings) (sym l.new)
+        | inl l ↦ ap (λ (x : NetworkSoFar). x.net.settings) (sym l.new)
         | inr k ↦ elim k [
-          | inl o ↦ ap (λ (x : Draft). x.net.settings) (sym o.new)
+          | inl o ↦ ap (λ (x : NetworkSoFar). x.net.settings) (sym o.new)
           | inr k ↦ elim k [
-            | inl r ↦ ap (λ (x : Draft). x.net.settings) (sym r.new)
+            | inl r ↦ ap (λ (x : NetworkSoFar). x.net.settings) (sym r.new)
             | inr n ↦ ap (λ (x : Plan). x.settings) n.new
           ]
         ]
       ]
     ]
 
-lines_by : (d end : Draft) (before : ℕ) (line : Text) (lines : List Text) (r : Result Draft Code) → line_reading d line ≡ r
-    → ((e : Draft) → reading (λ at x words. line_reading x words) (before + 1) e lines ≡ Ok end → end.net.settings ≡ e.net.settings)
+lines_by : (d end : NetworkSoFar) (before : ℕ) (line : Text) (lines : List Text) (r : Result NetworkSoFar Code) → line_reading d line ≡ r
+    → ((e : NetworkSoFar) → reading (λ at x words. line_reading x words) (before + 1) e lines ≡ Ok end → end.net.settings ≡ e.net.settings)
     → then_on (before + 1) r (λ e. reading (λ at x words. line_reading x words) (before + 1) e lines) ≡ Ok end
     → end.net.settings ≡ d.net.settings
 lines_by d end before line lines (Err code) is rest h = absurd cc
 lines_by d end before line lines (Ok e) is rest h = rest e h ∙ line_keeps d e line is
 
-lines_keep : (lines : List Text) (d end : Draft) (before : ℕ) → reading (λ at x words. line_reading x words) before d lines ≡ Ok end → end.net.settings ≡ d.net.settings
+lines_keep : (lines : List Text) (d end : NetworkSoFar) (before : ℕ) → reading (λ at x words. line_reading x words) before d lines ≡ Ok end → end.net.settings ≡ d.net.settings
 lines_keep [] d end before h =
     let same_draft : d ≡ end = cc in
-    ap (λ (x : Draft). x.net.settings) (sym same_draft)
+    ap (λ (x : NetworkSoFar). x.net.settings) (sym same_draft)
 lines_keep (line ∷ lines) d end before h = lines_by d end before line lines (line_reading d line) refl (λ e k. lines_keep lines e end (before + 1) k) h
 
 pub settings_are_named : SettingsAreNamed

@@ -2,26 +2,26 @@
 use Rattle.std.proofs.Common.{◌≡◌, ◌≢◌, ℕ, List, [], length, ◌<◌, Result, Ok, Err, subst, sym, ◌∙◌, refl, inl, inr, rules}
 use mathlib.Core.Logic.{◌⊎◌}
 use Rattle.ranked_policy.specs.Plans.{Plan, IsNetwork, IsConnected}
-use Rattle.ranked_policy.specs.declared.network.Router.{Router}
+use Rattle.ranked_policy.specs.declared.network.NetRouter.{NetRouter}
 use Rattle.net_text.specs.declared.code.Code.{Code}
 use Rattle.net_text.specs.declared.code.Code.TheVariants as codes
 use Rattle.net_text.specs.declared.code.Refused.{Refused}
-use Rattle.net_text.specs.declared.draft.Draft.{Draft}
+use Rattle.net_text.specs.declared.network_so_far.NetworkSoFar.{NetworkSoFar}
 use Rattle.net_text.specs.Lexing.{Text}
 use Rattle.net_text.specs.Networks.{SpellsNetwork, RefusesNetwork, IsNoNetwork, FailsAsNetwork, refused_at, draft_reading, last_line}
 use Rattle.net_text.specs.Laws.{SpeltIsNotRefused, OneRefusal}
 
-some_are_not_none : (routers : List Router) → 0 < length routers → routers ≡ [] → ⊥
+some_are_not_none : (routers : List NetRouter) → 0 < length routers → routers ≡ [] → ⊥
 some_are_not_none routers some e = search rules
 
 is_no_fault : (a b : Plan) → a ≡ b → IsNetwork a → (code : Code) → FailsAsNetwork b code → ⊥
 is_no_fault a b e n code (inl r) = some_are_not_none b.routers (subst (λ (p : Plan). 0 < length p.routers) e n.some) r.1
 is_no_fault a b e n code (inr r) = r.2 (subst (λ (p : Plan). IsConnected p.routers p.links) e n.connected)
 
-same_net : (r : Result Draft Refused) (d f : Draft) → r ≡ Ok d → r ≡ Ok f → d.net ≡ f.net
+same_net : (r : Result NetworkSoFar Refused) (d f : NetworkSoFar) → r ≡ Ok d → r ≡ Ok f → d.net ≡ f.net
 same_net r d f one other = search rules
 
-ok_is_no_error : (r : Result Draft Refused) (d : Draft) (f : Refused) → r ≡ Ok d → r ≡ Err f → ⊥
+ok_is_no_error : (r : Result NetworkSoFar Refused) (d : NetworkSoFar) (f : Refused) → r ≡ Ok d → r ≡ Err f → ⊥
 ok_is_no_error r d f one other = search rules
 
 -- the text has a faulty line, or is no network as a whole
@@ -53,7 +53,7 @@ spelt_is_not_refused lines net line code spelt r = memory_or lines net line code
 
 -- ---- one refusal
 
-same_fault : (r : Result Draft Refused) (line other : ℕ) (code reason : Code) → r ≡ Err (refused_at line code) → r ≡ Err (refused_at other reason) → (line ≡ other) × (code ≡ reason)
+same_fault : (r : Result NetworkSoFar Refused) (line other : ℕ) (code reason : Code) → r ≡ Err (refused_at line code) → r ≡ Err (refused_at other reason) → (line ≡ other) × (code ≡ reason)
 same_fault r line other code reason one two = search rules
 
 same_failure : (a b : Plan) → a ≡ b → (code reason : Code) → FailsAsNetwork a code → FailsAsNetwork b reason → code ≡ reason

@@ -4,10 +4,10 @@ use Rattle.std.specs.List.{list_all, All}
 use Rattle.std.proofs.lemmas.Bool.{not-false, and_parts, leb-true, or_parts}
 use Rattle.std.proofs.lemmas.List.Elements.{All-cons, All-nil}
 use Rattle.prefix_lanes.specs.Bits.{PrefixView}
-use Rattle.ranked_policy.specs.declared.network.Router.{Router}
+use Rattle.ranked_policy.specs.declared.network.NetRouter.{NetRouter}
 use Rattle.net_text.specs.declared.code.Code.{Code}
 use Rattle.net_text.specs.declared.code.Code.TheVariants as codes
-use Rattle.net_text.specs.declared.draft.Draft.{Draft}
+use Rattle.net_text.specs.declared.network_so_far.NetworkSoFar.{NetworkSoFar}
 use Rattle.net_text.specs.Lexing.{Text}
 use Rattle.net_text.specs.Words.{◌>>=◌, path_of, path_word, is_from, router_word, prefix_word, rule_path_word, rule_path_words, is_none, assigned_word, assigned_path}
 use Rattle.ranked_policy.specs.Tests.{is_simple}
@@ -47,15 +47,15 @@ unknown_no_memory e = cc
 not_simple_no_memory : {A : Type 0} → NoMemory {A = A} (Err codes.NotSimple)
 not_simple_no_memory e = cc
 
-pub path_no_memory : (width : Width) (routers : List Router) (word : Text) → NoMemory (path_word width routers word)
+pub path_no_memory : (width : Width) (routers : List NetRouter) (word : Text) → NoMemory (path_word width routers word)
 path_no_memory width routers word = either_way _ _ _ unreadable_no_memory (either_way _ _ _ limit_no_memory (either_way _ _ _ unknown_no_memory (ok_no_memory tt)))
 
-rule_path_no_memory : (width : Width) (routers : List Router) (u : ℕ) (word : Text) → NoMemory (rule_path_word width routers u word)
+rule_path_no_memory : (width : Width) (routers : List NetRouter) (u : ℕ) (word : Text) → NoMemory (rule_path_word width routers u word)
 rule_path_no_memory width routers u word =
     one_by_one (path_word width routers word) (λ _. cond (is_from u (path_of word) && is_simple (path_of word)) (Ok tt) (Err codes.NotSimple)) (path_no_memory width routers word)
     (λ _. either_way _ _ _ (ok_no_memory tt) not_simple_no_memory)
 
-pub rule_paths_no_memory : (width : Width) (routers : List Router) (u : ℕ) (words : List Text) → NoMemory (rule_path_words width routers u words)
+pub rule_paths_no_memory : (width : Width) (routers : List NetRouter) (u : ℕ) (words : List Text) → NoMemory (rule_path_words width routers u words)
 rule_paths_no_memory width routers u [] = ok_no_memory tt
 rule_paths_no_memory width routers u (word ∷ words) =
     one_by_one (rule_path_word width routers u word) (λ _. rule_path_words width routers u words) (rule_path_no_memory width routers u word) (λ _. rule_paths_no_memory width routers u words)
@@ -91,13 +91,13 @@ all_wider width (n ∷ ns) h =
     let more = all_wider width ns parts.1 in
     rw (one, more) refl
 
-pub path_asns : (width : Width) (routers : List Router) (word : Text) (u : Unit {0}) → path_word width routers word ≡ Ok u → list_all (is_asn Four) (path_of word) ≡ true
+pub path_asns : (width : Width) (routers : List NetRouter) (word : Text) (u : Unit {0}) → path_word width routers word ≡ Ok u → list_all (is_asn Four) (path_of word) ≡ true
 path_asns width routers word u e = all_wider width (path_of word) (not-false _ (past _ codes.OutOfLimit _ u (past _ codes.Unreadable _ u e).1).0)
 
 pub is_short : (n : ℕ) → nat_le n 16 ≡ true → n ≤ 16
 is_short n t = leb-true n 16 t
 
-takeable_in : (width : Width) (routers : List Router) (u : ℕ) (words : List Text) (v : Unit {0}) → rule_path_words width routers u words ≡ Ok v → are_short (map path_of words) ≡ true → All IsTakeable words
+takeable_in : (width : Width) (routers : List NetRouter) (u : ℕ) (words : List Text) (v : Unit {0}) → rule_path_words width routers u words ≡ Ok v → are_short (map path_of words) ≡ true → All IsTakeable words
 takeable_in width routers u [] v e s = All-nil IsTakeable
 takeable_in width routers u (word ∷ words) v e s =
     let first = then_ok (rule_path_word width routers u word) (λ _. rule_path_words width routers u words) v e in
@@ -106,7 +106,7 @@ takeable_in width routers u (word ∷ words) v e s =
     All-cons IsTakeable word words (record { numbers = path_asns width routers word path.0 path.1; short = is_short (length (path_of word)) both.0 }) (takeable_in width routers u words v first.2 both.1)
 
 -- the paths of a good rule can be taken into memory
-pub takeable : (width : Width) (routers : List Router) (u : ℕ) (q : PrefixView) (words : List Text) (v w : Unit {0}) → rule_path_words width routers u words ≡ Ok v → rule_fault routers u q words ≡ Ok w → All IsTakeable words
+pub takeable : (width : Width) (routers : List NetRouter) (u : ℕ) (q : PrefixView) (words : List Text) (v w : Unit {0}) → rule_path_words width routers u words ≡ Ok v → rule_fault routers u q words ≡ Ok w → All IsTakeable words
 takeable width routers u q words v w e f =
     let counts = past (is_ruled routers u q || not (are_distinct (map path_of words))) codes.Repeated _ w f in
     let limits = past (nat_lt 32 (length words) || is_full routers u || not (are_short (map path_of words))) codes.OutOfLimit (Ok tt) w counts.1 in
@@ -121,7 +121,7 @@ short_is : (b : Bool) (word : Text) → b ≡ false → nat_le (length (cond b [
 short_is true word e h = absurd cc
 short_is false word e h = h
 
-pub assigned_takeable : (width : Width) (routers : List Router) (word : Text) → is_none word ≡ false → assigned_word width routers word ≡ Ok tt → nat_le (length (assigned_path word)) 16 ≡ true → IsTakeable word
+pub assigned_takeable : (width : Width) (routers : List NetRouter) (word : Text) → is_none word ≡ false → assigned_word width routers word ≡ Ok tt → nat_le (length (assigned_path word)) 16 ≡ true → IsTakeable word
 assigned_takeable width routers word named good short = record {
   numbers = path_asns width routers word tt (path_is (is_none word) (Ok tt) (path_word width routers word) named good);
   short = is_short (length (path_of word)) (short_is (is_none word) word named short);
@@ -129,7 +129,7 @@ assigned_takeable width routers word named good short = record {
 
 -- ---- a rule's line stops at a path, or goes on to its counts
 
-pub rule_stops : (d : Draft) (line words more : List Text) (a b : Text) (u : ℕ) (q : PrefixView) (code : Code) → line ≡ a ∷ more → more ≡ b ∷ words → Ok u ≡ router_word (width_named d.named) d.net.routers a → Ok q ≡ prefix_word b
+pub rule_stops : (d : NetworkSoFar) (line words more : List Text) (a b : Text) (u : ℕ) (q : PrefixView) (code : Code) → line ≡ a ∷ more → more ≡ b ∷ words → Ok u ≡ router_word (width_named d.named) d.net.routers a → Ok q ≡ prefix_word b
     → Err code ≡ rule_path_words (width_named d.named) d.net.routers u words → rule_line d line ≡ Err code
 rule_stops d line words more a b u q code l m e f g =
     ap (rule_line d) (l ∙ ap (λ (ws : List Text). a ∷ ws) m)

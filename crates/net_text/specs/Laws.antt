@@ -6,7 +6,7 @@ use Rattle.net_text.specs.Lexing.{Text}
 use Rattle.net_text.specs.Networks.{refused_at, reading, SpellsNetwork, RefusesNetwork}
 use Rattle.net_text.specs.Lines.{line_reading, settings_of}
 use Rattle.net_text.specs.Assignments.{entry_reading}
-use Rattle.net_text.specs.declared.draft.Draft.{Draft}
+use Rattle.net_text.specs.declared.network_so_far.NetworkSoFar.{NetworkSoFar}
 use Rattle.net_text.specs.declared.assignment.Entry.{Entry}
 use Rattle.ranked_policy.specs.Plans.{Plan}
 
@@ -29,7 +29,8 @@ FirstFaultDecides read before s =
 
 -- the law of first faults for network texts
 abbrev pub FirstFaultDecidesNetworks : Type 0
-FirstFaultDecidesNetworks = (d : Draft) (before : ℕ) → FirstFaultDecides (λ line draft words. line_reading draft words) before d
+FirstFaultDecidesNetworks = (d : NetworkSoFar) (before : ℕ)
+    → FirstFaultDecides (λ line draft words. line_reading draft words) before d
 
 abbrev pub FirstFaultDecidesAssignments : Type 0
 FirstFaultDecidesAssignments = (net : Plan) (before : ℕ) (entries : List Entry) → FirstFaultDecides (entry_reading net) before entries

@@ -6,10 +6,10 @@ use Rattle.bgp_values.specs.declared.width.Width.{Width}
 use Rattle.bgp_values.specs.declared.width.Width.TheVariants.{Two, Four}
 use Rattle.bgp_values.specs.Ranges.{is_hold_time}
 use Rattle.ranked_policy.specs.declared.network.Settings.{Settings}
-use Rattle.ranked_policy.specs.declared.network.Router.{Router}
+use Rattle.ranked_policy.specs.declared.network.NetRouter.{NetRouter}
 use Rattle.ranked_policy.specs.declared.network.Link.{Link}
 use Rattle.ranked_policy.specs.declared.network.Origin.{Origin}
-use Rattle.ranked_policy.specs.declared.network.Rule.{Rule}
+use Rattle.ranked_policy.specs.declared.network.RankRule.{RankRule}
 use Rattle.ranked_policy.specs.declared.limits.TheConstants.{GREATEST_CUT, GREATEST_PIPE, MOST_ROUTERS, MOST_LINKS, MOST_PREFIXES, MOST_RULES, MOST_PATHS, LONGEST_PATH}
 use Rattle.ranked_policy.specs.Plans.{touches}
 use Rattle.ranked_policy.specs.Adding.{with_link}
@@ -19,7 +19,7 @@ use Rattle.net_text.specs.declared.settings.TheConstants.{MOST_SECONDS, USUAL_HO
 use Rattle.net_text.specs.declared.settings.Setting.{Setting}
 use Rattle.net_text.specs.declared.settings.Setting.TheVariants.{Hold, Restart, Cut, Pipe, Octets}
 use Rattle.net_text.specs.declared.settings.Named.{Named}
-use Rattle.net_text.specs.declared.draft.Draft.{Draft}
+use Rattle.net_text.specs.declared.network_so_far.NetworkSoFar.{NetworkSoFar}
 use Rattle.net_text.specs.Lexing.{Text, same, words_of, is_skipped, is_ascii}
 use Rattle.net_text.specs.Words.{◌>>=◌, is_number, value_of, number_word, asn_word, router_word, id_word, prefix_word, is_named, path_of, rule_path_words}
 
@@ -86,7 +86,7 @@ usual = record { hold = USUAL_HOLD; restart = USUAL_RESTART; cut = GREATEST_CUT;
 abbrev pub settings_of : List Text → Settings
 settings_of lines = settings_behind usual lines
 
-abbrev pub setting_line : Setting → Draft → List Text → Result Draft Code
+abbrev pub setting_line : Setting → NetworkSoFar → List Text → Result NetworkSoFar Code
 setting_line setting d (word ∷ []) =
     number_word (in_range setting) word >>= λ n.
     if was_named setting d.named then Err Repeated
@@ -100,20 +100,20 @@ among comes_first (x ∷ xs) item = if comes_first x item then x ∷ among comes
 
 -- ---- routers, by rising number
 
-abbrev pub new_router : ℕ → ℕ → Router
+abbrev pub new_router : ℕ → ℕ → NetRouter
 new_router u id = record { asn = u; id = id; rules = [] }
 
-abbrev pub is_below : Router → Router → Bool
+abbrev pub is_below : NetRouter → NetRouter → Bool
 is_below r s = nat_lt r.asn s.asn
 
-abbrev pub with_router : Draft → ℕ → ℕ → Draft
+abbrev pub with_router : NetworkSoFar → ℕ → ℕ → NetworkSoFar
 with_router d u id = record d { net = record d.net { routers = among is_below d.net.routers (new_router u id) } }
 
 -- a router has this number or this identifier
-abbrev pub is_taken : List Router → ℕ → ℕ → Bool
+abbrev pub is_taken : List NetRouter → ℕ → ℕ → Bool
 is_taken routers u id = list_any (λ r. (r.asn == u) || (r.id == id)) routers
 
-abbrev pub router_line : Draft → List Text → Result Draft Code
+abbrev pub router_line : NetworkSoFar → List Text → Result NetworkSoFar Code
 router_line d (a ∷ b ∷ []) =
     asn_word (width_named d.named) a >>= λ u. id_word b >>= λ id.
     if is_taken d.net.routers u id then Err Repeated
@@ -126,7 +126,7 @@ router_line d words = Err BadForm
 abbrev pub joins : ℕ → ℕ → Link → Bool
 joins u v link = ((link.one == u) && (link.other == v)) || ((link.one == v) && (link.other == u))
 
-abbrev pub link_line : Draft → List Text → Result Draft Code
+abbrev pub link_line : NetworkSoFar → List Text → Result NetworkSoFar Code
 link_line d (a ∷ b ∷ []) =
     router_word (width_named d.named) d.net.routers a >>= λ u. router_word (width_named d.named) d.net.routers b >>= λ v.
     if (u == v) || list_any (joins u v) d.net.links then Err Repeated
@@ -143,10 +143,10 @@ new_origin u q = record { prefix = q; router = u }
 abbrev pub comes_before : Origin → Origin → Bool
 comes_before o p = nat_lt o.prefix.addr p.prefix.addr || ((o.prefix.addr == p.prefix.addr) && nat_lt o.prefix.len p.prefix.len)
 
-abbrev pub with_origin : Draft → ℕ → PrefixView → Draft
+abbrev pub with_origin : NetworkSoFar → ℕ → PrefixView → NetworkSoFar
 with_origin d u q = record d { net = record d.net { origins = among comes_before d.net.origins (new_origin u q) } }
 
-abbrev pub origin_line : Draft → List Text → Result Draft Code
+abbrev pub origin_line : NetworkSoFar → List Text → Result NetworkSoFar Code
 origin_line d (a ∷ b ∷ []) =
     router_word (width_named d.named) d.net.routers a >>= λ u. prefix_word b >>= λ q.
     if is_named d.net.origins q then Err Repeated
@@ -164,25 +164,25 @@ are_distinct (path ∷ paths) = not (list_any (same path) paths) && are_distinct
 abbrev pub are_short : List (List ℕ) → Bool
 are_short paths = list_all (λ path. nat_le (length path) LONGEST_PATH) paths
 
-abbrev pub is_ruled : List Router → ℕ → PrefixView → Bool
+abbrev pub is_ruled : List NetRouter → ℕ → PrefixView → Bool
 is_ruled routers u q = list_any (λ r. (r.asn == u) && list_any (λ rule. is_prefix rule.prefix q) r.rules) routers
 
-abbrev pub is_full : List Router → ℕ → Bool
+abbrev pub is_full : List NetRouter → ℕ → Bool
 is_full routers u = list_any (λ r. (r.asn == u) && nat_le MOST_RULES (length r.rules)) routers
 
-abbrev pub ruled : ℕ → Rule → Router → Router
+abbrev pub ruled : ℕ → RankRule → NetRouter → NetRouter
 ruled u rule r = if r.asn == u then record r { rules = r.rules ++ rule ∷ [] } else r
 
-abbrev pub with_rule : Draft → ℕ → PrefixView → List (List ℕ) → Draft
+abbrev pub with_rule : NetworkSoFar → ℕ → PrefixView → List (List ℕ) → NetworkSoFar
 with_rule d u q paths = record d { net = record d.net { routers = map (ruled u (record { prefix = q; paths = paths })) d.net.routers } }
 
-abbrev pub rule_fault : List Router → ℕ → PrefixView → List Text → Result (Unit {0}) Code
+abbrev pub rule_fault : List NetRouter → ℕ → PrefixView → List Text → Result (Unit {0}) Code
 rule_fault routers u q words =
     if is_ruled routers u q || not (are_distinct (map path_of words)) then Err Repeated
     else if nat_lt MOST_PATHS (length words) || is_full routers u || not (are_short (map path_of words)) then Err OutOfLimit
     else Ok tt
 
-abbrev pub rule_line : Draft → List Text → Result Draft Code
+abbrev pub rule_line : NetworkSoFar → List Text → Result NetworkSoFar Code
 rule_line d (a ∷ b ∷ words) =
     router_word (width_named d.named) d.net.routers a >>= λ u. prefix_word b >>= λ q. rule_path_words (width_named d.named) d.net.routers u words >>= λ _. rule_fault d.net.routers u q words >>= λ _.
     Ok (with_rule d u q (map path_of words))
@@ -190,11 +190,11 @@ rule_line d words = Err BadForm
 
 -- ---- a line
 
-abbrev pub named_line : Option Setting → Draft → List Text → Result Draft Code
+abbrev pub named_line : Option Setting → NetworkSoFar → List Text → Result NetworkSoFar Code
 named_line None d words = Err BadForm
 named_line (Some setting) d words = setting_line setting d words
 
-abbrev pub words_line : Draft → List Text → Result Draft Code
+abbrev pub words_line : NetworkSoFar → List Text → Result NetworkSoFar Code
 words_line d [] = Ok d
 words_line d (name ∷ words) =
     if same name (codes "router") then router_line d words
@@ -204,7 +204,7 @@ words_line d (name ∷ words) =
     else named_line (setting_of name) d words
 
 -- the network after a line, or the line's first fault
-abbrev pub line_reading : Draft → Text → Result Draft Code
+abbrev pub line_reading : NetworkSoFar → Text → Result NetworkSoFar Code
 line_reading d line =
     if is_skipped line then Ok d
     else if not (is_ascii line) then Err BadForm

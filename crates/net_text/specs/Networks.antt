@@ -7,7 +7,7 @@ use Rattle.net_text.specs.declared.code.Code.{Code}
 use Rattle.net_text.specs.declared.code.Code.TheVariants as codes
 use Rattle.net_text.specs.declared.code.Refused.{Refused}
 use Rattle.net_text.specs.declared.settings.Named.{Named}
-use Rattle.net_text.specs.declared.draft.Draft.{Draft}
+use Rattle.net_text.specs.declared.network_so_far.NetworkSoFar.{NetworkSoFar}
 use Rattle.net_text.specs.Lexing.{Text, is_skipped}
 use Rattle.net_text.specs.Lines.{settings_of, line_reading}
 
@@ -31,10 +31,10 @@ reading read before s (line ∷ lines) = then_on (before + 1) (read (before + 1)
 abbrev pub nothing_named : Named
 nothing_named = record { hold = false; restart = false; cut = false; pipe = false; octets = false }
 
-abbrev pub empty_draft : List Text → Draft
+abbrev pub empty_draft : List Text → NetworkSoFar
 empty_draft lines = record { named = nothing_named; net = empty_plan (settings_of lines) }
 
-abbrev pub draft_reading : List Text → Result Draft Refused
+abbrev pub draft_reading : List Text → Result NetworkSoFar Refused
 draft_reading lines = reading (λ line d words. line_reading d words) 0 (empty_draft lines) lines
 
 -- the last line that is not skipped, 0 if there is none
@@ -59,7 +59,7 @@ FailsAsNetwork net code =
 
 -- all lines are good, and yet together they are no network
 pub record IsNoNetwork (lines : List Text) (code : Code) : Type 0 where
-  pub draft : Draft
+  pub draft : NetworkSoFar
   pub whole : draft_reading lines ≡ Ok draft
   pub fault : FailsAsNetwork draft.net code
 

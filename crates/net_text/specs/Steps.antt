@@ -6,7 +6,7 @@ use Rattle.ranked_policy.specs.declared.refusal.NetError.{NetError}
 use Rattle.ranked_policy.specs.declared.refusal.NetError.TheVariants as refusals
 use Rattle.ranked_policy.specs.Plans.{touches}
 use Rattle.ranked_policy.specs.Adding.{with_link}
-use Rattle.net_text.specs.declared.draft.Draft.{Draft}
+use Rattle.net_text.specs.declared.network_so_far.NetworkSoFar.{NetworkSoFar}
 use Rattle.net_text.specs.Lines.{joins}
 use Rattle.net_text.specs.declared.code.Code.{Code}
 use Rattle.net_text.specs.declared.code.Code.TheVariants as codes
@@ -22,7 +22,7 @@ Steps (Ok u) read new = read ≡ Ok new
 Steps (Err code) read new = Refuses code read
 
 -- what a link between two routers makes of a network, or its fault
-abbrev pub link_told : Draft → ℕ → ℕ → Result Draft Code
+abbrev pub link_told : NetworkSoFar → ℕ → ℕ → Result NetworkSoFar Code
 link_told d u v =
     if (u == v) || list_any (joins u v) d.net.links then Err codes.Repeated
     else if nat_le MOST_LINKS (count_by (touches u) d.net.links) || nat_le MOST_LINKS (count_by (touches v) d.net.links) then Err codes.OutOfLimit

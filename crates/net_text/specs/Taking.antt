@@ -3,7 +3,7 @@ use Rattle.std.specs.Prelude.{◌≡◌, ◌≤◌, ℕ, ◌+◌, ◌*◌, ◌^�
 use Rattle.std.specs.List.{list_all}
 use Rattle.bgp_values.specs.declared.width.Width.{Width}
 use Rattle.ranked_policy.specs.Tests.{is_simple}
-use Rattle.ranked_policy.specs.declared.network.Router.{Router}
+use Rattle.ranked_policy.specs.declared.network.NetRouter.{NetRouter}
 use Rattle.net_text.specs.declared.code.Code.{Code}
 use Rattle.net_text.specs.declared.code.Code.TheVariants.{OutOfLimit, UnknownRouter, NotSimple}
 use Rattle.net_text.specs.declared.paths.TheConstants.{DIGEST_FACTOR}
@@ -36,12 +36,12 @@ judged are_asns are_routers =
     else Ok tt
 
 -- the first fault of a path's numbers: one outside its limit anywhere, then one of no router anywhere
-abbrev pub routers_word : Width → List Router → List ℕ → Result (Unit {0}) Code
+abbrev pub routers_word : Width → List NetRouter → List ℕ → Result (Unit {0}) Code
 routers_word width routers path = judged (list_all (is_asn width) path) (list_all (is_router routers) path)
 
 -- the first fault of the numbers of a rule's path: those above, then a path that does not begin with router u, or names
 -- a router twice
-abbrev pub rule_numbers_word : Width → List Router → ℕ → List ℕ → Result (Unit {0}) Code
+abbrev pub rule_numbers_word : Width → List NetRouter → ℕ → List ℕ → Result (Unit {0}) Code
 rule_numbers_word width routers u path = routers_word width routers path >>= λ _. if is_from u path && is_simple path then Ok tt else Err NotSimple
 
 -- the digest of a path that goes on by one number, from the digest of the numbers before

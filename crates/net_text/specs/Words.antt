@@ -5,7 +5,7 @@ use Rattle.prefix_lanes.specs.Bits.{PrefixView, masked, is_prefix}
 use Rattle.bgp_values.specs.declared.width.Width.{Width}
 use Rattle.bgp_values.specs.Ranges.{is_asn, is_unicast}
 use Rattle.ranked_policy.specs.Tests.{is_simple}
-use Rattle.ranked_policy.specs.declared.network.Router.{Router}
+use Rattle.ranked_policy.specs.declared.network.NetRouter.{NetRouter}
 use Rattle.ranked_policy.specs.declared.network.Origin.{Origin}
 use Rattle.net_text.specs.declared.code.Code.{Code}
 use Rattle.net_text.specs.declared.code.Code.TheVariants.{Unreadable, UnknownRouter, OutOfLimit, NotSimple, BadPrefix}
@@ -43,13 +43,13 @@ number_word test word =
 
 -- ---- routers
 
-abbrev pub is_router : List Router → ℕ → Bool
+abbrev pub is_router : List NetRouter → ℕ → Bool
 is_router routers u = list_any (λ r. r.asn == u) routers
 
 abbrev pub asn_word : Width → Text → Result ℕ Code
 asn_word width word = number_word (is_asn width) word
 
-abbrev pub router_word : Width → List Router → Text → Result ℕ Code
+abbrev pub router_word : Width → List NetRouter → Text → Result ℕ Code
 router_word width routers word = asn_word width word >>= λ u. if not (is_router routers u) then Err UnknownRouter else Ok u
 
 -- ---- addresses
@@ -115,7 +115,7 @@ path_of word = map value_of (parts 45 word)
 
 -- the first fault of a path: a part that cannot be read anywhere in it, then a number outside its limit anywhere in it,
 -- then an unknown router anywhere in it
-abbrev pub path_word : Width → List Router → Text → Result (Unit {0}) Code
+abbrev pub path_word : Width → List NetRouter → Text → Result (Unit {0}) Code
 path_word width routers word =
     if not (list_all is_number (parts 45 word)) then Err Unreadable
     else if not (list_all (is_asn width) (path_of word)) then Err OutOfLimit
@@ -127,11 +127,11 @@ is_from u [] = false
 is_from u (v ∷ vs) = v == u
 
 -- a path of a rule of router u
-abbrev pub rule_path_word : Width → List Router → ℕ → Text → Result (Unit {0}) Code
+abbrev pub rule_path_word : Width → List NetRouter → ℕ → Text → Result (Unit {0}) Code
 rule_path_word width routers u word = path_word width routers word >>= λ _. if is_from u (path_of word) && is_simple (path_of word) then Ok tt else Err NotSimple
 
 -- the first fault of the paths of a rule of router u
-abbrev pub rule_path_words : Width → List Router → ℕ → List Text → Result (Unit {0}) Code
+abbrev pub rule_path_words : Width → List NetRouter → ℕ → List Text → Result (Unit {0}) Code
 rule_path_words width routers u [] = Ok tt
 rule_path_words width routers u (word ∷ words) = rule_path_word width routers u word >>= λ _. rule_path_words width routers u words
 
@@ -139,7 +139,7 @@ rule_path_words width routers u (word ∷ words) = rule_path_word width routers 
 abbrev pub is_none : Text → Bool
 is_none word = same word (codes "none")
 
-abbrev pub assigned_word : Width → List Router → Text → Result (Unit {0}) Code
+abbrev pub assigned_word : Width → List NetRouter → Text → Result (Unit {0}) Code
 assigned_word width routers word = if is_none word then Ok tt else path_word width routers word
 
 abbrev pub assigned_path : Text → List ℕ

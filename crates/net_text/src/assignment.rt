@@ -11,7 +11,7 @@ use crate::lexing::{is_ascii, is_skipped, next_line, next_word, same};
 use crate::paths::{is_short_assigned, judge_assigned, take_assigned};
 use crate::words::{origin_word, router_word};
 use prefix_lanes::Prefix;
-use ranked_policy::{Asn, Items, Network, Path};
+use ranked_policy::{Asn, NetItems, Network, Path};
 use std::alloc::Global;
 
 /// The path that a line gives a router for a prefix.
@@ -119,7 +119,7 @@ pub fn read_assignment(
     text: &[u8],
     before: usize,
     network: &Network,
-) -> Result<Items<Entry>, Refused>
+) -> Result<NetItems<Entry>, Refused>
     requires { before + length text.now < 2 ^ 64 }
     ensures ok { IfOk result (λ entries. assignment_reading network.now before (lines_of text.now) ≡ Ok entries) }
     ensures err { IfErr result

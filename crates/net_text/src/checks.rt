@@ -5,13 +5,13 @@
 ghost use Rattle.std.specs.Prelude.{◌≡◌, ◌++◌, OnOk, OnErr};
 ghost use Rattle.net_text.specs.Printing.{numbers_text, refused_line, unstable_line};
 
-use crate::tail::Tail;
+use crate::tail::TextTail;
 use ranked_policy::Asn;
 use std::alloc::AllocError;
 
 /// Appends a path: its numbers with dashes between them, or `none`. It is refused only for want of
 /// memory, and then nothing of it is written.
-pub fn put_path(out: &mut Tail, numbers: &[Asn]) -> Result<(), AllocError>
+pub fn put_path(out: &mut TextTail, numbers: &[Asn]) -> Result<(), AllocError>
     ensures text { OnOk result (out.new.text ≡ out.old.text ++ numbers_text numbers.now) }
     ensures err { OnErr result (out.new.text ≡ out.old.text) }
     ensures front { out.new.front ≡ out.old.front }
@@ -21,7 +21,7 @@ pub fn put_path(out: &mut Tail, numbers: &[Asn]) -> Result<(), AllocError>
 
 /// Appends the line of a refusal.
 #[tactic(auto, unfolding(crate::specs::Printing::refused_line))]
-pub(crate) fn put_refused(out: &mut Tail, line: usize, code: &[u8]) -> Result<(), AllocError>
+pub(crate) fn put_refused(out: &mut TextTail, line: usize, code: &[u8]) -> Result<(), AllocError>
     ensures text { OnOk result (out.new.text ≡ out.old.text ++ refused_line line code.now) }
     ensures front { out.new.front ≡ out.old.front }
 {
@@ -35,7 +35,7 @@ pub(crate) fn put_refused(out: &mut Tail, line: usize, code: &[u8]) -> Result<()
 /// Appends the line of a router that would move.
 #[tactic(auto, unfolding(crate::specs::Printing::unstable_line))]
 pub(crate) fn put_unstable(
-    out: &mut Tail,
+    out: &mut TextTail,
     router: Asn,
     has: &[Asn],
     best: &[Asn],

@@ -6,7 +6,7 @@ ghost use Rattle.net_text.specs.Assignments.{gives};
 
 use crate::assignment::Entry;
 use prefix_lanes::Prefix;
-use ranked_policy::{Asn, Items};
+use ranked_policy::{Asn, NetItems};
 use std::alloc::{AllocError, Global};
 use std::collections::BTreeSet;
 use std::marker::Model;
@@ -83,9 +83,9 @@ impl Entries {
     }
 
     /// The entries. It takes no memory.
-    pub(crate) fn into_items(self) -> Items<Entry>
+    pub(crate) fn into_items(self) -> NetItems<Entry>
         ensures { result ≡ self }
     {
-        Items::from_vec(self.list)
+        NetItems::from_vec(self.list)
     }
 }

@@ -18,7 +18,7 @@
 //! the public functions of [`laws`].
 //!
 //! Readers of other texts stand on the same [`lexing`] and [`words`]. Writers of other lines stand on
-//! [`path_line`] and [`Tail`]; or, where room for a whole line was made, on [`write_text`], [`write_mark`],
+//! [`path_line`] and [`TextTail`]; or, where room for a whole line was made, on [`write_text`], [`write_mark`],
 //! [`write_decimal`] and [`write_prefix`], each of which writes at a place and answers the place behind.
 //!
 //! Left out: schedules, reports of runs, and every use of a network.
@@ -28,13 +28,13 @@ mod assignment;
 mod checks;
 mod code;
 mod decimals;
-mod draft;
 mod entries;
 pub mod laws;
 pub mod lexing;
 mod lines;
 mod messages;
 mod network_lines;
+mod network_so_far;
 mod notices;
 mod path_lines;
 mod paths;
@@ -52,15 +52,15 @@ pub use assignment::{Entry, read_assignment};
 pub use checks::put_path;
 pub use code::{Code, Refused};
 pub use decimals::write_decimal;
-pub use draft::read_network;
 pub use lines::{
     fault_lines, flight_line, message_line, refused_line, stable_line, truncated_line,
     unstable_line,
 };
+pub use network_so_far::read_network;
 pub use notices::notice_line;
 pub use path_lines::path_line;
 pub use prefix_texts::write_prefix;
 pub use sections::{Split, split_at_section};
-pub use tail::Tail;
+pub use tail::TextTail;
 pub use texts::{write_mark, write_text};
 pub use whole_lines::{put_comments, put_network};

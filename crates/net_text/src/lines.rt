@@ -9,7 +9,7 @@ ghost use Rattle.net_text.specs.Appending.{text_of, IsSendable};
 use crate::checks::{put_refused, put_unstable};
 use crate::messages::{put_fault, put_open, put_truncated};
 use crate::notices::notice_line;
-use crate::tail::Tail;
+use crate::tail::TextTail;
 use crate::updates::{put_flight, put_update};
 use bgp_codec::{Fault, Message, Open, Update};
 use ranked_policy::Asn;
@@ -32,7 +32,7 @@ enum Line<'a> {
 }
 
 // Writes the line. A refused call may leave a part of it.
-fn put_line(alloc: Global, out: &mut Tail, line: &Line) -> Result<(), AllocError>
+fn put_line(alloc: Global, out: &mut TextTail, line: &Line) -> Result<(), AllocError>
     requires { IsSendable line.now }
     ensures text { OnOk result (out.new.text ≡ out.old.text ++ text_of line.now) }
     ensures front { out.new.front ≡ out.old.front }
@@ -55,7 +55,7 @@ fn append(out: &mut Vec<u8>, line: &Line) -> Result<(), AllocError>
     ensures err { OnErr result (out.new.items ≡ out.old.items) }
 {
     let alloc = *out.allocator();
-    let mut tail = Tail::behind(out);
+    let mut tail = TextTail::behind(out);
     let result = put_line(alloc, &mut tail, line);
     *out = tail.finish(result.is_ok());
     result

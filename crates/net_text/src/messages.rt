@@ -9,13 +9,13 @@ ghost use Rattle.bgp_values.specs.declared.width.Width.TheVariants.{Two};
 ghost use Rattle.bgp_codec.specs.Spelling.{written};
 ghost use Rattle.net_text.specs.Printing.{line, open_line, cap_text, param_text, notice_of, fault_lines, truncated_line};
 
-use crate::tail::Tail;
+use crate::tail::TextTail;
 use bgp_codec::{Cap, Fault, Items, Message, NOBODY, Open, encode, notice_of};
 use std::alloc::{AllocError, Global};
 
 // Appends a capability.
 #[tactic(auto, unfolding(crate::specs::Printing::cap_text))]
-fn put_cap(out: &mut Tail, cap: &Cap) -> Result<(), AllocError>
+fn put_cap(out: &mut TextTail, cap: &Cap) -> Result<(), AllocError>
     ensures text { OnOk result (out.new.text ≡ out.old.text ++ cap_text cap.now) }
     ensures front { out.new.front ≡ out.old.front }
 {
@@ -26,7 +26,7 @@ fn put_cap(out: &mut Tail, cap: &Cap) -> Result<(), AllocError>
 }
 
 // Appends the capabilities of a parameter.
-fn put_param(out: &mut Tail, caps: &[Cap]) -> Result<(), AllocError>
+fn put_param(out: &mut TextTail, caps: &[Cap]) -> Result<(), AllocError>
     ensures text { OnOk result (out.new.text ≡ out.old.text ++ param_text caps.now) }
     ensures front { out.new.front ≡ out.old.front }
 {
@@ -37,7 +37,7 @@ fn put_param(out: &mut Tail, caps: &[Cap]) -> Result<(), AllocError>
 }
 
 // Appends the capabilities of all parameters.
-fn put_params(out: &mut Tail, params: &[Items<Cap>]) -> Result<(), AllocError>
+fn put_params(out: &mut TextTail, params: &[Items<Cap>]) -> Result<(), AllocError>
     ensures text { OnOk result (out.new.text ≡ out.old.text ++ flat_map param_text params.now) }
     ensures front { out.new.front ≡ out.old.front }
 {
@@ -50,7 +50,7 @@ fn put_params(out: &mut Tail, params: &[Items<Cap>]) -> Result<(), AllocError>
 /// Appends the line of an OPEN.
 #[tactic(auto, unfolding(crate::specs::Printing::open_line))]
 #[inline(never)]
-pub fn put_open(out: &mut Tail, message: &Open) -> Result<(), AllocError>
+pub fn put_open(out: &mut TextTail, message: &Open) -> Result<(), AllocError>
     ensures text { OnOk result (out.new.text ≡ out.old.text ++ line (open_line message.now)) }
     ensures front { out.new.front ≡ out.old.front }
 {
@@ -80,7 +80,7 @@ fn notice_octets(alloc: Global, fault: &Fault) -> Result<Vec<u8>, AllocError>
 /// Appends the two lines of a fault: its codes, and its NOTIFICATION in hex.
 #[tactic(auto, unfolding(crate::specs::Printing::fault_lines))]
 #[cold]
-pub fn put_fault(alloc: Global, out: &mut Tail, fault: &Fault) -> Result<(), AllocError>
+pub fn put_fault(alloc: Global, out: &mut TextTail, fault: &Fault) -> Result<(), AllocError>
     requires { length fault.now.extra ≤ MOST_DATA }
     ensures text { OnOk result (out.new.text ≡ out.old.text ++ fault_lines fault.now) }
     ensures front { out.new.front ≡ out.old.front }
@@ -97,7 +97,7 @@ pub fn put_fault(alloc: Global, out: &mut Tail, fault: &Fault) -> Result<(), All
 
 /// Appends the line of a rest of so many octets that is no whole message.
 #[tactic(auto, unfolding(crate::specs::Printing::truncated_line))]
-pub fn put_truncated(out: &mut Tail, len: usize) -> Result<(), AllocError>
+pub fn put_truncated(out: &mut TextTail, len: usize) -> Result<(), AllocError>
     ensures text { OnOk result (out.new.text ≡ out.old.text ++ truncated_line len) }
     ensures front { out.new.front ≡ out.old.front }
 {

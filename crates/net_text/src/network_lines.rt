@@ -9,17 +9,19 @@ ghost use Rattle.net_text.specs.Taking.{AreBrief};
 ghost use Rattle.net_text.specs.Steps.{Steps};
 
 use crate::code::Code;
-use crate::draft::Draft;
 use crate::lexing::{is_ascii, is_skipped, next_word, one_word, same, two_words};
+use crate::network_so_far::NetworkSoFar;
 use crate::paths::{PathsBrief, are_distinct, judge_rule_paths, take_paths};
 use crate::settings::{Setting, judge_setting, naming, setting_of, was_named, width_named};
 use crate::words::{asn_word, id_word, is_named, prefix_word, router_word};
 use prefix_lanes::Prefix;
-use ranked_policy::{Asn, MOST_PATHS, MOST_PREFIXES, MOST_ROUTERS, MOST_RULES, Router, Rule};
+use ranked_policy::{
+    Asn, MOST_PATHS, MOST_PREFIXES, MOST_ROUTERS, MOST_RULES, NetRouter, RankRule,
+};
 use std::alloc::Global;
 
 // Reads a line of a setting.
-fn read_setting(draft: &mut Draft, setting: Setting, words: &[u8]) -> Result<(), Code>
+fn read_setting(draft: &mut NetworkSoFar, setting: Setting, words: &[u8]) -> Result<(), Code>
     ensures { Steps result (setting_line setting draft.old (words_of words.now)) draft.new }
 {
     let Some(word) = one_word(words) else {
@@ -34,7 +36,7 @@ fn read_setting(draft: &mut Draft, setting: Setting, words: &[u8]) -> Result<(),
 }
 
 // Whether a router has this number or this identifier.
-fn is_taken(routers: &[Router], asn: Asn, id: u32) -> bool
+fn is_taken(routers: &[NetRouter], asn: Asn, id: u32) -> bool
     ensures { result ≡ is_taken routers.now asn id }
 {
     routers
@@ -42,7 +44,7 @@ fn is_taken(routers: &[Router], asn: Asn, id: u32) -> bool
         .any(|router| router.asn == asn || router.id == id)
 }
 
-fn read_router(draft: &mut Draft, words: &[u8]) -> Result<(), Code>
+fn read_router(draft: &mut NetworkSoFar, words: &[u8]) -> Result<(), Code>
     ensures { Steps result (router_line draft.old (words_of words.now)) draft.new }
 {
     let Some((asn, id)) = two_words(words) else {
@@ -59,7 +61,7 @@ fn read_router(draft: &mut Draft, words: &[u8]) -> Result<(), Code>
     draft.add_router(asn, id)
 }
 
-fn read_link(draft: &mut Draft, words: &[u8]) -> Result<(), Code>
+fn read_link(draft: &mut NetworkSoFar, words: &[u8]) -> Result<(), Code>
     ensures { Steps result (link_line draft.old (words_of words.now)) draft.new }
 {
     let Some((a, b)) = two_words(words) else {
@@ -70,7 +72,7 @@ fn read_link(draft: &mut Draft, words: &[u8]) -> Result<(), Code>
     draft.add_link(a, b)
 }
 
-fn read_origin(draft: &mut Draft, words: &[u8]) -> Result<(), Code>
+fn read_origin(draft: &mut NetworkSoFar, words: &[u8]) -> Result<(), Code>
     ensures { Steps result (origin_line draft.old (words_of words.now)) draft.new }
 {
     let Some((asn, prefix)) = two_words(words) else {
@@ -88,21 +90,21 @@ fn read_origin(draft: &mut Draft, words: &[u8]) -> Result<(), Code>
 }
 
 // Whether one of the rules is for this prefix.
-fn has_rule(rules: &[Rule], prefix: &Prefix) -> bool
+fn has_rule(rules: &[RankRule], prefix: &Prefix) -> bool
     ensures { result ≡ list_any (λ rule. is_prefix rule.prefix prefix.now) rules.now }
 {
     rules.iter().any(|rule| rule.prefix.equals(prefix))
 }
 
 // Whether the router has a rule for this prefix.
-fn is_ruled(routers: &[Router], asn: Asn, prefix: &Prefix) -> bool
+fn is_ruled(routers: &[NetRouter], asn: Asn, prefix: &Prefix) -> bool
     ensures { result ≡ is_ruled routers.now asn prefix.now }
 {
     routers.iter().any(|router| router.asn == asn && has_rule(router.rules.as_slice(), prefix))
 }
 
 // Whether the router has as many rules as it may.
-fn is_full(routers: &[Router], asn: Asn) -> bool
+fn is_full(routers: &[NetRouter], asn: Asn) -> bool
     ensures { result ≡ is_full routers.now asn }
 {
     routers.iter().any(|router| router.asn == asn && router.rules.len() >= MOST_RULES)
@@ -110,7 +112,7 @@ fn is_full(routers: &[Router], asn: Asn) -> bool
 
 // Judges that a rule does not repeat, and then its counts.
 fn judge_rule<'a>(
-    routers: &[Router],
+    routers: &[NetRouter],
     asn: Asn,
     prefix: &Prefix,
     words: &'a [u8],
@@ -131,7 +133,7 @@ fn judge_rule<'a>(
 
 fn read_rule<'a>(
     alloc: Global,
-    draft: &mut Draft,
+    draft: &mut NetworkSoFar,
     room: &mut Vec<&'a [u8]>,
     words: &'a [u8],
 ) -> Result<(), Code>
@@ -155,7 +157,7 @@ fn read_rule<'a>(
 
 fn read_words<'a>(
     alloc: Global,
-    draft: &mut Draft,
+    draft: &mut NetworkSoFar,
     room: &mut Vec<&'a [u8]>,
     line: &'a [u8],
 ) -> Result<(), Code>
@@ -184,7 +186,7 @@ fn read_words<'a>(
 // (`make_room`).
 pub(crate) fn read_line<'a>(
     alloc: Global,
-    draft: &mut Draft,
+    draft: &mut NetworkSoFar,
     room: &mut Vec<&'a [u8]>,
     line: &'a [u8],
 ) -> Result<(), Code>

@@ -179,7 +179,7 @@ fn set_to(setting: Setting, number: u64, settings: Settings) -> Settings
 }
 
 // The settings as a line leaves them.
-fn told(line: &[u8], settings: Settings) -> Settings
+fn set_by(line: &[u8], settings: Settings) -> Settings
     ensures value { result ≡ told (words_of line.now) settings }
     ensures range { IsSettings settings → IsSettings result }
 {
@@ -216,7 +216,7 @@ pub(crate) fn settings_of(text: &[u8]) -> Settings
     let mut left = text;
     'lines: while !left.is_empty() {
         let (line, rest) = next_line(left);
-        settings = told(line, settings);
+        settings = set_by(line, settings);
         left = rest;
     }
     settings

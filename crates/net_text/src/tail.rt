@@ -16,12 +16,12 @@ use std::mem;
 
 /// A buffer that keeps what it had in front, while text is written behind it.
 #[derive(Drop)]
-pub struct Tail {
+pub struct TextTail {
     octets: Vec<u8>,
     start: usize,
 }
 
-impl Model for Tail {
+impl Model for TextTail {
     ghost use Rattle.std.specs.Prelude.{◌≤◌, take, drop, vec_len};
     ghost use Rattle.net_text.specs.Printing.{Written};
 
@@ -32,14 +32,14 @@ impl Model for Tail {
     ghost invariant = { λ t. t.start ≤ vec_len t.octets };
 }
 
-impl Tail {
+impl TextTail {
     /// Takes the buffer, and leaves an empty one until `finish` gives it back.
-    pub fn behind(out: &mut Vec<u8>) -> Tail
+    pub fn behind(out: &mut Vec<u8>) -> TextTail
         ensures { result ≡ record { front = out.old.items; text = [] } }
     {
         let alloc = *out.allocator();
         let start = out.len();
-        Tail {
+        TextTail {
             octets: mem::replace(out, Vec::new(alloc)),
             start,
         }
@@ -49,7 +49,7 @@ impl Tail {
     pub fn finish(self, keep: bool) -> Vec<u8>
         ensures { result.items ≡ (if keep then self.front ++ self.text else self.front) }
     {
-        let Tail { mut octets, start } = self;
+        let TextTail { mut octets, start } = self;
         if !keep {
             octets.truncate(start);
         }

@@ -4,14 +4,14 @@ ghost use Rattle.std.specs.Prelude.{◌≡◌, ◌+◌, ◌*◌, ◌≤◌, ◌+
 ghost use Rattle.std.specs.List.{join_with_byte};
 ghost use Rattle.net_text.specs.Printing.{line, update_line, flight_line, withdrawn_text, announced_text, route_text, prefix_text, prefixes_text, segment_text, segments_text, path_text};
 
-use crate::tail::Tail;
+use crate::tail::TextTail;
 use bgp_codec::{Asn, Attrs, Items, Segment, SegmentKind, Update};
 use prefix_lanes::Prefix;
 use std::alloc::AllocError;
 
 // Appends a segment: a set in braces, with commas, or a sequence, with dashes.
 #[tactic(auto, unfolding(crate::specs::Printing::segment_text))]
-fn put_segment(out: &mut Tail, segment: &Segment) -> Result<(), AllocError>
+fn put_segment(out: &mut TextTail, segment: &Segment) -> Result<(), AllocError>
     ensures text { OnOk result (out.new.text ≡ out.old.text ++ segment_text segment.now) }
     ensures front { out.new.front ≡ out.old.front }
 {
@@ -27,7 +27,7 @@ fn put_segment(out: &mut Tail, segment: &Segment) -> Result<(), AllocError>
 
 // Appends segments with a dash between them, or that there are none.
 #[tactic(auto, unfolding(crate::specs::Printing::segments_text))]
-fn put_segments(out: &mut Tail, segments: &[Segment]) -> Result<(), AllocError>
+fn put_segments(out: &mut TextTail, segments: &[Segment]) -> Result<(), AllocError>
     ensures text { OnOk result (out.new.text ≡ out.old.text ++ segments_text segments.now) }
     ensures front { out.new.front ≡ out.old.front }
 {
@@ -45,7 +45,7 @@ fn put_segments(out: &mut Tail, segments: &[Segment]) -> Result<(), AllocError>
 }
 
 // Appends a path; an absent one has no segment.
-fn put_path(out: &mut Tail, path: &Option<Items<Segment>>) -> Result<(), AllocError>
+fn put_path(out: &mut TextTail, path: &Option<Items<Segment>>) -> Result<(), AllocError>
     ensures text { OnOk result (out.new.text ≡ out.old.text ++ path_text path.now) }
     ensures front { out.new.front ≡ out.old.front }
 {
@@ -57,7 +57,7 @@ fn put_path(out: &mut Tail, path: &Option<Items<Segment>>) -> Result<(), AllocEr
 
 // Appends the path and the next hop of the routes.
 #[tactic(auto, unfolding(crate::specs::Printing::route_text))]
-fn put_route(out: &mut Tail, attrs: &Attrs) -> Result<(), AllocError>
+fn put_route(out: &mut TextTail, attrs: &Attrs) -> Result<(), AllocError>
     ensures text { OnOk result (out.new.text ≡ out.old.text ++ route_text attrs.now) }
     ensures front { out.new.front ≡ out.old.front }
 {
@@ -68,7 +68,7 @@ fn put_route(out: &mut Tail, attrs: &Attrs) -> Result<(), AllocError>
 }
 
 // Appends the withdrawn prefixes, if there are any.
-fn put_withdrawn(out: &mut Tail, prefixes: &[Prefix]) -> Result<(), AllocError>
+fn put_withdrawn(out: &mut TextTail, prefixes: &[Prefix]) -> Result<(), AllocError>
     ensures text { OnOk result (out.new.text ≡ out.old.text ++ withdrawn_text prefixes.now) }
     ensures front { out.new.front ≡ out.old.front }
 {
@@ -80,7 +80,7 @@ fn put_withdrawn(out: &mut Tail, prefixes: &[Prefix]) -> Result<(), AllocError>
 }
 
 // Appends the announced prefixes and their routes, if there are any.
-fn put_announced(out: &mut Tail, attrs: &Attrs, prefixes: &[Prefix]) -> Result<(), AllocError>
+fn put_announced(out: &mut TextTail, attrs: &Attrs, prefixes: &[Prefix]) -> Result<(), AllocError>
     ensures text { OnOk result (out.new.text ≡ out.old.text ++ announced_text attrs.now prefixes.now) }
     ensures front { out.new.front ≡ out.old.front }
 {
@@ -95,7 +95,7 @@ fn put_announced(out: &mut Tail, attrs: &Attrs, prefixes: &[Prefix]) -> Result<(
 /// Appends the line of an UPDATE.
 #[tactic(auto, unfolding(crate::specs::Printing::update_line))]
 #[inline(never)]
-pub fn put_update(out: &mut Tail, message: &Update) -> Result<(), AllocError>
+pub fn put_update(out: &mut TextTail, message: &Update) -> Result<(), AllocError>
     ensures text { OnOk result (out.new.text ≡ out.old.text ++ line (update_line message.now)) }
     ensures front { out.new.front ≡ out.old.front }
 {
@@ -107,7 +107,12 @@ pub fn put_update(out: &mut Tail, message: &Update) -> Result<(), AllocError>
 
 /// Appends the line of an UPDATE that was in flight from one router to another.
 #[tactic(auto, unfolding(crate::specs::Printing::flight_line))]
-pub fn put_flight(out: &mut Tail, from: Asn, to: Asn, message: &Update) -> Result<(), AllocError>
+pub fn put_flight(
+    out: &mut TextTail,
+    from: Asn,
+    to: Asn,
+    message: &Update,
+) -> Result<(), AllocError>
     ensures text { OnOk result (out.new.text ≡ out.old.text ++ flight_line from to message.now) }
     ensures front { out.new.front ≡ out.old.front }
 {

@@ -9,7 +9,7 @@ use crate::code::Code;
 use crate::lexing::cut;
 use bgp_values::{Width, is_asn, is_unicast};
 use prefix_lanes::Prefix;
-use ranked_policy::{Asn, Origin, Router};
+use ranked_policy::{Asn, NetRouter, Origin};
 
 // A word of so few octets has a value that 64 bits hold.
 const MOST_SHORT: usize = 17;
@@ -111,7 +111,7 @@ pub(crate) fn asn_word(width: Width, word: &[u8]) -> Result<Asn, Code>
 }
 
 // Whether the router that has the number if numbers have no gap has it indeed.
-fn is_without_gap(routers: &[Router], number: u64) -> bool
+fn is_without_gap(routers: &[NetRouter], number: u64) -> bool
     ensures { result ≡ true → is_router routers.now number ≡ true }
 {
     let Some(first) = routers.first() else {
@@ -123,7 +123,7 @@ fn is_without_gap(routers: &[Router], number: u64) -> bool
 
 // Whether a router has the number. Most networks number their routers without a gap, so one place
 // is looked at before all are.
-pub(crate) fn is_router(routers: &[Router], number: u64) -> bool
+pub(crate) fn is_router(routers: &[NetRouter], number: u64) -> bool
     ensures { result ≡ is_router routers.now number }
 {
     is_without_gap(routers, number) || routers.iter().any(|router| u64::from(router.asn) == number)
@@ -131,7 +131,7 @@ pub(crate) fn is_router(routers: &[Router], number: u64) -> bool
 
 /// The number of a router. Refused with `Unreadable`, then with `OutOfLimit`, then with
 /// `UnknownRouter`.
-pub fn router_word(width: Width, routers: &[Router], word: &[u8]) -> Result<Asn, Code>
+pub fn router_word(width: Width, routers: &[NetRouter], word: &[u8]) -> Result<Asn, Code>
     ensures { result ≡ router_word width routers.now word.now }
 {
     let asn = asn_word(width, word)?;

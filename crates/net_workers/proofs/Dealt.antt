@@ -5,14 +5,14 @@ use Rattle.std.specs.List.{AllPairs, AllByRecursion, HoldsAt, flat_map}
 use Rattle.std.proofs.Math.Path.{fun_ext}
 use Rattle.std.proofs.lemmas.Bool.{eqb-true, eqb-false, eq-eqb, ne_eqb}
 use Rattle.std.proofs.lemmas.List.{append-nil, map-append, get_or-drop, drop_more}
-use Rattle.ranked_policy.specs.declared.network.Router.{Router}
+use Rattle.ranked_policy.specs.declared.network.NetRouter.{NetRouter}
 use Rattle.ranked_policy.specs.declared.network.Link.{Link}
 use Rattle.ranked_policy.specs.Plans.{Plan, IsNetwork, IsRouter, Joins, numbers}
 use Rattle.outbox.specs.declared.item.Item.{Item}
 use Rattle.ruled_pipe.specs.Ends.{TableId, End, Closed, closed_at, left}
-use Rattle.net_workers.specs.declared.ends.Lane.{Lane}
-use Rattle.net_workers.specs.declared.ends.Ends.{Ends}
-use Rattle.net_workers.specs.declared.record.Way.{Way}
+use Rattle.net_workers.specs.declared.worker_pipes.PipePair.{PipePair}
+use Rattle.net_workers.specs.declared.worker_pipes.WorkerPipes.{WorkerPipes}
+use Rattle.net_workers.specs.declared.record.ClosedPipe.{ClosedPipe}
 use Rattle.net_workers.specs.Lanes.{is_to, lane_has, reaches, Wire, wire_of, put_of, taken_of}
 use Rattle.net_workers.specs.Ways.{leads, way_has, IsWay, both_ways}
 use Rattle.net_workers.specs.Dealt.{lanes_in, lanes_by, with_lane, IsFirst, wires_on, Dealt, wires_by, AreDealt, IsJoined, HavePassed}
@@ -39,7 +39,7 @@ not_snoc {A} (x ∷ xs) a h = (let n : length {A = A} [] ≡ length (x ∷ xs ++
 
 -- ---- where a router stands
 
-asn_at : (rs : List Router) (i : ℕ) (d : Router) (e : ℕ) → i < length rs → get_or (numbers rs) i e ≡ (get_or rs i d).asn
+asn_at : (rs : List NetRouter) (i : ℕ) (d : NetRouter) (e : ℕ) → i < length rs → get_or (numbers rs) i e ≡ (get_or rs i d).asn
 asn_at [] i d e below = absurd (omega (arith, below))
 asn_at (r ∷ rs) zero d e below = refl
 asn_at (r ∷ rs) (suc i) d e below = asn_at rs i d e (omega (arith, below))
@@ -47,7 +47,7 @@ asn_at (r ∷ rs) (suc i) d e below = asn_at rs i d e (omega (arith, below))
 behind_rise : (n : ℕ) (ns : List ℕ) → AllPairs (λ u v. u < v) (n ∷ ns) → AllPairs (λ u v. u < v) ns
 behind_rise n ns rising = λ i j d a b. rising (suc i) (suc j) d (omega (arith, a)) (omega (arith, b))
 
-pub first_place : (rs : List Router) (i n : ℕ) → AllPairs (λ u v. u < v) (numbers rs) → i < length rs → ((d : Router) → (get_or rs i d).asn ≡ n) → IsFirst (numbers rs) i n
+pub first_place : (rs : List NetRouter) (i n : ℕ) → AllPairs (λ u v. u < v) (numbers rs) → i < length rs → ((d : NetRouter) → (get_or rs i d).asn ≡ n) → IsFirst (numbers rs) i n
 first_place [] i n rising below at = absurd (omega (arith, below))
 first_place (r ∷ rs) zero n rising below at = at r
 first_place (r ∷ rs) (suc i) n rising below at =
@@ -57,68 +57,68 @@ first_place (r ∷ rs) (suc i) n rising below at =
     let is = at r in
     (λ same. absurd (omega (arith, less, there, is, same)), first_place rs i n (behind_rise r.asn (numbers rs) rising) (omega (arith, below)) at)
   where
-    length_map : (xs : List Router) → length (numbers xs) ≡ length xs
+    length_map : (xs : List NetRouter) → length (numbers xs) ≡ length xs
     length_map [] = refl
     length_map (x ∷ xs) = ap suc (length_map xs)
 
--- ---- one lane more
+-- ---- one pair more
 
-pub many_with : (ls : List (List Lane)) (i : ℕ) (lane : Lane) → length (with_lane ls i lane) ≡ length ls
-many_with [] i lane = refl
-many_with (l ∷ ls) zero lane = refl
-many_with (l ∷ ls) (suc i) lane = ap suc (many_with ls i lane)
+pub many_with : (ls : List (List PipePair)) (i : ℕ) (pair : PipePair) → length (with_lane ls i pair) ≡ length ls
+many_with [] i pair = refl
+many_with (l ∷ ls) zero pair = refl
+many_with (l ∷ ls) (suc i) pair = ap suc (many_with ls i pair)
 
 -- a push and a pop, as lists
-pub pushed : (es : List Ends) (i : ℕ) (d new : Ends) (lane : Lane) → i < length es → new.lanes.items ≡ (get_or es i d).lanes.items ++ lane ∷ []
-    → lanes_in (set es i new) ≡ with_lane (lanes_in es) i lane
-pushed [] i d new lane below more = absurd (omega (arith, below))
-pushed (e ∷ es) zero d new lane below more = ap (λ (l : List Lane). l ∷ lanes_in es) more
-pushed (e ∷ es) (suc i) d new lane below more = ap (λ (ls : List (List Lane)). e.lanes.items ∷ ls) (pushed es i d new lane (omega (arith, below)) more)
+pub pushed : (es : List WorkerPipes) (i : ℕ) (d new : WorkerPipes) (pair : PipePair) → i < length es → new.pairs.items ≡ (get_or es i d).pairs.items ++ pair ∷ []
+    → lanes_in (set es i new) ≡ with_lane (lanes_in es) i pair
+pushed [] i d new pair below more = absurd (omega (arith, below))
+pushed (e ∷ es) zero d new pair below more = ap (λ (l : List PipePair). l ∷ lanes_in es) more
+pushed (e ∷ es) (suc i) d new pair below more = ap (λ (ls : List (List PipePair)). e.pairs.items ∷ ls) (pushed es i d new pair (omega (arith, below)) more)
 
-pub popped : (es : List Ends) (i : ℕ) (d new : Ends) (lane : Lane) → i < length es → (get_or es i d).lanes.items ≡ new.lanes.items ++ lane ∷ []
-    → lanes_in es ≡ with_lane (lanes_in (set es i new)) i lane
-popped [] i d new lane below less = absurd (omega (arith, below))
-popped (e ∷ es) zero d new lane below less = ap (λ (l : List Lane). l ∷ lanes_in es) less
-popped (e ∷ es) (suc i) d new lane below less = ap (λ (ls : List (List Lane)). e.lanes.items ∷ ls) (popped es i d new lane (omega (arith, below)) less)
+pub popped : (es : List WorkerPipes) (i : ℕ) (d new : WorkerPipes) (pair : PipePair) → i < length es → (get_or es i d).pairs.items ≡ new.pairs.items ++ pair ∷ []
+    → lanes_in es ≡ with_lane (lanes_in (set es i new)) i pair
+popped [] i d new pair below less = absurd (omega (arith, below))
+popped (e ∷ es) zero d new pair below less = ap (λ (l : List PipePair). l ∷ lanes_in es) less
+popped (e ∷ es) (suc i) d new pair below less = ap (λ (ls : List (List PipePair)). e.pairs.items ∷ ls) (popped es i d new pair (omega (arith, below)) less)
 
-pub popped_by : (es : List Ends) (i : ℕ) (d new : Ends) (r : Option Lane) → i < length es → (get_or es i d).lanes.items ≡ new.lanes.items ++ option_to_list r
-    → IfSome r (λ lane. lanes_in es ≡ with_lane (lanes_in (set es i new)) i lane)
+pub popped_by : (es : List WorkerPipes) (i : ℕ) (d new : WorkerPipes) (r : Option PipePair) → i < length es → (get_or es i d).pairs.items ≡ new.pairs.items ++ option_to_list r
+    → IfSome r (λ pair. lanes_in es ≡ with_lane (lanes_in (set es i new)) i pair)
 popped_by es i d new None below less = tt
-popped_by es i d new (Some lane) below less = popped es i d new lane below less
+popped_by es i d new (Some pair) below less = popped es i d new pair below less
 
--- the lanes of the router at a place
-pub by_place : (ns : List ℕ) (ls : List (List Lane)) (i n : ℕ) → IsFirst ns i n → length ls ≡ length ns → lanes_by ns ls n ≡ get_or ls i []
+-- the pairs of the router at a place
+pub by_place : (ns : List ℕ) (ls : List (List PipePair)) (i n : ℕ) → IsFirst ns i n → length ls ≡ length ns → lanes_by ns ls n ≡ get_or ls i []
 by_place [] ls i n first many = absurd first
 by_place (m ∷ ms) [] i n first many = absurd (omega (arith, many))
 by_place (m ∷ ms) (l ∷ ls) zero n first many = rw (eq-eqb m n first) refl
 by_place (m ∷ ms) (l ∷ ls) (suc i) n first many = rw (ne_eqb m n first.0) (by_place ms ls i n first.1 (omega (arith, many)))
 
--- the lane joins those of its router, and of no other
-here_by : (m n u : ℕ) (l : List Lane) (lane : Lane) (rest : List Lane) (b : Bool) → (m == u) ≡ b → m ≡ n
-    → cond b (l ++ lane ∷ []) rest ≡ cond b l rest ++ cond (n == u) (lane ∷ []) []
-here_by m n u l lane rest true is same = rw (eq-eqb n u (sym same ∙ eqb-true m u is)) refl
-here_by m n u l lane rest false is same = rw (ne_eqb n u (λ k. eqb-false m u is (same ∙ k))) (sym (append-nil rest))
+-- the pair joins those of its router, and of no other
+here_by : (m n u : ℕ) (l : List PipePair) (pair : PipePair) (rest : List PipePair) (b : Bool) → (m == u) ≡ b → m ≡ n
+    → cond b (l ++ pair ∷ []) rest ≡ cond b l rest ++ cond (n == u) (pair ∷ []) []
+here_by m n u l pair rest true is same = rw (eq-eqb n u (sym same ∙ eqb-true m u is)) refl
+here_by m n u l pair rest false is same = rw (ne_eqb n u (λ k. eqb-false m u is (same ∙ k))) (sym (append-nil rest))
 
-there_by : (m n u : ℕ) (l : List Lane) (lane : Lane) (old new : List Lane) (b : Bool) → (m == u) ≡ b → m ≢ n → new ≡ old ++ cond (n == u) (lane ∷ []) []
-    → cond b l new ≡ cond b l old ++ cond (n == u) (lane ∷ []) []
-there_by m n u l lane old new true is apart h = rw (ne_eqb n u (λ k. apart (eqb-true m u is ∙ sym k))) (sym (append-nil l))
-there_by m n u l lane old new false is apart h = h
+there_by : (m n u : ℕ) (l : List PipePair) (pair : PipePair) (old new : List PipePair) (b : Bool) → (m == u) ≡ b → m ≢ n → new ≡ old ++ cond (n == u) (pair ∷ []) []
+    → cond b l new ≡ cond b l old ++ cond (n == u) (pair ∷ []) []
+there_by m n u l pair old new true is apart h = rw (ne_eqb n u (λ k. apart (eqb-true m u is ∙ sym k))) (sym (append-nil l))
+there_by m n u l pair old new false is apart h = h
 
-pub lane_more : (ns : List ℕ) (ls : List (List Lane)) (i n : ℕ) (lane : Lane) (u : ℕ) → IsFirst ns i n → length ls ≡ length ns
-    → lanes_by ns (with_lane ls i lane) u ≡ lanes_by ns ls u ++ cond (n == u) (lane ∷ []) []
-lane_more [] ls i n lane u first many = absurd first
-lane_more (m ∷ ms) [] i n lane u first many = absurd (omega (arith, many))
-lane_more (m ∷ ms) (l ∷ ls) zero n lane u first many = here_by m n u l lane (lanes_by ms ls u) (m == u) refl first
-lane_more (m ∷ ms) (l ∷ ls) (suc i) n lane u first many =
-    there_by m n u l lane (lanes_by ms ls u) (lanes_by ms (with_lane ls i lane) u) (m == u) refl first.0 (lane_more ms ls i n lane u first.1 (omega (arith, many)))
+pub lane_more : (ns : List ℕ) (ls : List (List PipePair)) (i n : ℕ) (pair : PipePair) (u : ℕ) → IsFirst ns i n → length ls ≡ length ns
+    → lanes_by ns (with_lane ls i pair) u ≡ lanes_by ns ls u ++ cond (n == u) (pair ∷ []) []
+lane_more [] ls i n pair u first many = absurd first
+lane_more (m ∷ ms) [] i n pair u first many = absurd (omega (arith, many))
+lane_more (m ∷ ms) (l ∷ ls) zero n pair u first many = here_by m n u l pair (lanes_by ms ls u) (m == u) refl first
+lane_more (m ∷ ms) (l ∷ ls) (suc i) n pair u first many =
+    there_by m n u l pair (lanes_by ms ls u) (lanes_by ms (with_lane ls i pair) u) (m == u) refl first.0 (lane_more ms ls i n pair u first.1 (omega (arith, many)))
 
 -- ---- a link more
 
--- the lanes that its routers have of it
-abbrev lanes_on : Link → (here there : Lane) → ℕ → List Lane
+-- the pairs that its routers have of it
+abbrev lanes_on : Link → (here there : PipePair) → ℕ → List PipePair
 lanes_on link here there u = cond (link.one == u) (here ∷ []) (cond (link.other == u) (there ∷ []) [])
 
-both_by : (link : Link) (here there : Lane) (u : ℕ) (a b : Bool) → (link.one == u) ≡ a → (link.other == u) ≡ b → link.one ≢ link.other
+both_by : (link : Link) (here there : PipePair) (u : ℕ) (a b : Bool) → (link.one == u) ≡ a → (link.other == u) ≡ b → link.one ≢ link.other
     → cond a (here ∷ []) [] ++ cond b (there ∷ []) [] ≡ cond a (here ∷ []) (cond b (there ∷ []) [])
 both_by link here there u true true ea eb apart = absurd (apart (eqb-true link.one u ea ∙ sym (eqb-true link.other u eb)))
 both_by link here there u true false ea eb apart = refl
@@ -130,19 +130,19 @@ pub record IsPlaced (ns : List ℕ) (link : Link) (i j : ℕ) : Type 0 where
   pub other : IsFirst ns j link.other
   pub apart : link.one ≢ link.other
 
-module _ (ns : List ℕ) (ls : List (List Lane)) (link : Link) (i j : ℕ) (here there : Lane) (placed : IsPlaced ns link i j) (many : length ls ≡ length ns) where
+module _ (ns : List ℕ) (ls : List (List PipePair)) (link : Link) (i j : ℕ) (here there : PipePair) (placed : IsPlaced ns link i j) (many : length ls ≡ length ns) where
   pub two_more : (u : ℕ) → lanes_by ns (with_lane (with_lane ls i here) j there) u ≡ lanes_by ns ls u ++ lanes_on link here there u
   two_more u =
       lane_more ns (with_lane ls i here) j link.other there u placed.other (many_with ls i here ∙ many)
-      ∙ ap (λ (l : List Lane). l ++ cond (link.other == u) (there ∷ []) []) (lane_more ns ls i link.one here u placed.one many)
+      ∙ ap (λ (l : List PipePair). l ++ cond (link.other == u) (there ∷ []) []) (lane_more ns ls i link.one here u placed.one many)
       ∙ append_assoc (lanes_by ns ls u) (cond (link.one == u) (here ∷ []) []) (cond (link.other == u) (there ∷ []) [])
-      ∙ ap (λ (l : List Lane). lanes_by ns ls u ++ l) (both_by link here there u (link.one == u) (link.other == u) refl refl placed.apart)
+      ∙ ap (λ (l : List PipePair). lanes_by ns ls u ++ l) (both_by link here there u (link.one == u) (link.other == u) refl refl placed.apart)
 
   -- as ends of pipes
   pub two_wires : (u : ℕ) → wires_by ns (with_lane (with_lane ls i here) j there) u ≡ wires_by ns ls u ++ map wire_of (lanes_on link here there u)
   two_wires u = ap (map wire_of) (two_more u) ∙ map-append wire_of (lanes_by ns ls u) (lanes_on link here there u)
 
-wires_are : (room : ℕ) (link : Link) (here there : Lane) (out back : TableId) (u : ℕ) (a b : Bool)
+wires_are : (room : ℕ) (link : Link) (here there : PipePair) (out back : TableId) (u : ℕ) (a b : Bool)
     → wire_of here ≡ record { peer = link.other; out = out; room = room; into = back } → wire_of there ≡ record { peer = link.one; out = back; room = room; into = out }
     → map wire_of (cond a (here ∷ []) (cond b (there ∷ []) []))
     ≡ cond a (record { peer = link.other; out = out; room = room; into = back } ∷ []) (cond b (record { peer = link.one; out = back; room = room; into = out } ∷ []) [])
@@ -151,7 +151,7 @@ wires_are room link here there out back u false true h t = ap (λ (w : Wire). w 
 wires_are room link here there out back u false false h t = refl
 
 -- so the link is dealt
-pub dealt_more : (room : ℕ) (ns : List ℕ) (old new : List (List Lane)) (link : Link) (links : List Link) (i j : ℕ) → IsPlaced ns link i j → length old ≡ length ns
+pub dealt_more : (room : ℕ) (ns : List ℕ) (old new : List (List PipePair)) (link : Link) (links : List Link) (i j : ℕ) → IsPlaced ns link i j → length old ≡ length ns
     → Dealt room links (wires_by ns old) → IsJoined room link i j old new → Dealt room (link ∷ links) (wires_by ns new)
 dealt_more room ns old new link links i j placed many dealt joined =
     let here = joined.here in
@@ -161,14 +161,14 @@ dealt_more room ns old new link links i j placed many dealt joined =
       there.out.pipe,
       dealt,
       λ u.
-          ap (λ (ls : List (List Lane)). wires_by ns ls u) joined.lanes ∙ two_wires ns old link i j here there placed many u
+          ap (λ (ls : List (List PipePair)). wires_by ns ls u) joined.pairs ∙ two_wires ns old link i j here there placed many u
           ∙ ap (λ (ws : List Wire). wires_by ns old u ++ ws) (wires_are room link here there here.out.pipe there.out.pipe u (link.one == u) (link.other == u) joined.to_other joined.to_one),
     )
 
 -- ---- a link less
 
 -- what stands behind the others is what the link added
-split_by : (room : ℕ) (link : Link) (here there : Lane) (out back : TableId) (u : ℕ) (xs ys : List Wire) (a b : Bool) → (link.one == u) ≡ a → (link.other == u) ≡ b
+split_by : (room : ℕ) (link : Link) (here there : PipePair) (out back : TableId) (u : ℕ) (xs ys : List Wire) (a b : Bool) → (link.one == u) ≡ a → (link.other == u) ≡ b
     → xs ++ map wire_of (cond a (here ∷ []) (cond b (there ∷ []) []))
     ≡ ys ++ cond a (record { peer = link.other; out = out; room = room; into = back } ∷ []) (cond b (record { peer = link.one; out = back; room = room; into = out } ∷ []) [])
     → (xs ≡ ys) × ((a ≡ true → wire_of here ≡ record { peer = link.other; out = out; room = room; into = back })
@@ -177,22 +177,22 @@ split_by room link here there out back u xs ys true b ea eb h = (let k = snoc_pa
 split_by room link here there out back u xs ys false true ea eb h = (let k = snoc_parts xs ys (wire_of there) _ h in (k.0, (λ t. absurd cc, λ f t. k.1)))
 split_by room link here there out back u xs ys false false ea eb h = (sym (append-nil xs) ∙ h ∙ append-nil ys, (λ t. absurd cc, λ f t. absurd cc))
 
--- the two lanes are of two pipes, and what is left is dealt
-pub record IsParted (room : ℕ) (ns : List ℕ) (link : Link) (links : List Link) (left : List (List Lane)) (here there : Lane) : Type 0 where
+-- the two pairs are of two pipes, and what is left is dealt
+pub record IsParted (room : ℕ) (ns : List ℕ) (link : Link) (links : List Link) (left : List (List PipePair)) (here there : PipePair) : Type 0 where
   pub dealt : Dealt room links (wires_by ns left)
   pub out : TableId
   pub back : TableId
   pub to_other : wire_of here ≡ record { peer = link.other; out = out; room = room; into = back }
   pub to_one : wire_of there ≡ record { peer = link.one; out = back; room = room; into = out }
 
-pub parted : (room : ℕ) (ns : List ℕ) (all left : List (List Lane)) (link : Link) (links : List Link) (i j : ℕ) (here there : Lane) → IsPlaced ns link i j → length left ≡ length ns
+pub parted : (room : ℕ) (ns : List ℕ) (all left : List (List PipePair)) (link : Link) (links : List Link) (i j : ℕ) (here there : PipePair) → IsPlaced ns link i j → length left ≡ length ns
     → all ≡ with_lane (with_lane left i here) j there → Dealt room (link ∷ links) (wires_by ns all) → IsParted room ns link links left here there
 parted room ns all left link links i j here there placed many is dealt =
     let before = dealt.0 in
     let out = dealt.1 in
     let back = dealt.2 in
     let equal : (u : ℕ) → wires_by ns left u ++ map wire_of (lanes_on link here there u) ≡ before u ++ wires_on room link out back u =
-    λ u. sym (ap (λ (ls : List (List Lane)). wires_by ns ls u) is ∙ two_wires ns left link i j here there placed many u) ∙ dealt.4 u in
+    λ u. sym (ap (λ (ls : List (List PipePair)). wires_by ns ls u) is ∙ two_wires ns left link i j here there placed many u) ∙ dealt.4 u in
     let parts = λ (u : ℕ). split_by room link here there out back u (wires_by ns left u) (before u) (link.one == u) (link.other == u) refl refl (equal u) in
     record {
       dealt = subst (Dealt room links) (fun_ext (λ u. sym (parts u).0)) dealt.3;
@@ -209,22 +209,22 @@ wires_one room link out back = rw (eq-eqb link.one link.one refl) refl
 wires_other : (room : ℕ) (link : Link) (out back : TableId) → link.one ≢ link.other → wires_on room link out back link.other ≡ record { peer = link.one; out = back; room = room; into = out } ∷ []
 wires_other room link out back apart = rw (ne_eqb link.one link.other apart, eq-eqb link.other link.other refl) refl
 
--- so both routers have a last lane
-pub some_other : (room : ℕ) (ns : List ℕ) (all : List (List Lane)) (link : Link) (links : List Link) (i j : ℕ) → IsPlaced ns link i j → length all ≡ length ns
+-- so both routers have a last pair
+pub some_other : (room : ℕ) (ns : List ℕ) (all : List (List PipePair)) (link : Link) (links : List Link) (i j : ℕ) → IsPlaced ns link i j → length all ≡ length ns
     → Dealt room (link ∷ links) (wires_by ns all) → get_or all j [] ≡ [] → ⊥
 some_other room ns all link links i j placed many dealt none =
     let here : wires_by ns all link.other ≡ [] = ap (map wire_of) (by_place ns all j link.other placed.other many ∙ none) in
     not_snoc (dealt.0 link.other) (record { peer = link.one; out = dealt.2; room = room; into = dealt.1 })
     (sym here ∙ dealt.4 link.other ∙ ap (λ (ws : List Wire). dealt.0 link.other ++ ws) (wires_other room link dealt.1 dealt.2 placed.apart))
 
-pub some_one : (room : ℕ) (ns : List ℕ) (all left : List (List Lane)) (there : Lane) (link : Link) (links : List Link) (i j : ℕ) → IsPlaced ns link i j → length left ≡ length ns
+pub some_one : (room : ℕ) (ns : List ℕ) (all left : List (List PipePair)) (there : PipePair) (link : Link) (links : List Link) (i j : ℕ) → IsPlaced ns link i j → length left ≡ length ns
     → all ≡ with_lane left j there → Dealt room (link ∷ links) (wires_by ns all) → get_or left i [] ≡ [] → ⊥
 some_one room ns all left there link links i j placed many is dealt none =
-    let lanes : lanes_by ns all link.one ≡ [] =
-    ap (λ (ls : List (List Lane)). lanes_by ns ls link.one) is ∙ lane_more ns left j link.other there link.one placed.other many
-    ∙ ap (λ (l : List Lane). l ++ cond (link.other == link.one) (there ∷ []) []) (by_place ns left i link.one placed.one many ∙ none)
+    let pairs : lanes_by ns all link.one ≡ [] =
+    ap (λ (ls : List (List PipePair)). lanes_by ns ls link.one) is ∙ lane_more ns left j link.other there link.one placed.other many
+    ∙ ap (λ (l : List PipePair). l ++ cond (link.other == link.one) (there ∷ []) []) (by_place ns left i link.one placed.one many ∙ none)
     ∙ ap (λ (t : Bool). [] ++ cond t (there ∷ []) []) (ne_eqb link.other link.one (λ k. placed.apart (sym k))) in
-    let here : wires_by ns all link.one ≡ [] = ap (map wire_of) lanes in
+    let here : wires_by ns all link.one ≡ [] = ap (map wire_of) pairs in
     not_snoc (dealt.0 link.one) (record { peer = link.other; out = dealt.1; room = room; into = dealt.2 })
     (sym here ∙ dealt.4 link.one ∙ ap (λ (ws : List Wire). dealt.0 link.one ++ ws) (wires_one room link dealt.1 dealt.2))
 
@@ -234,7 +234,7 @@ abbrev pub wire_reaches : List Wire → ℕ → Bool
 wire_reaches [] v = false
 wire_reaches (w ∷ ws) v = cond (w.peer == v) true (wire_reaches ws v)
 
-pub reaches_wires : (lanes : List Lane) (v : ℕ) → reaches lanes v ≡ wire_reaches (map wire_of lanes) v
+pub reaches_wires : (pairs : List PipePair) (v : ℕ) → reaches pairs v ≡ wire_reaches (map wire_of pairs) v
 reaches_wires [] v = refl
 reaches_wires (l ∷ ls) v = ap (λ (b : Bool). cond (l.peer == v) true b) (reaches_wires ls v)
 
@@ -262,13 +262,13 @@ unreached room (l ∷ ls) wires a b never dealt =
     ∙ reaches_more (dealt.0 a) (wires_on room l dealt.1 dealt.2 a) b (unreached room ls dealt.0 a b never.1 dealt.3)
     (one_by l room dealt.1 dealt.2 a b (l.one == a) (l.other == a) (l.other == b) (l.one == b) refl refl refl refl never.0)
 
--- ---- what the lanes have
+-- ---- what the pairs have
 
-lane_last : {B : Type 0} (what : Lane → B) (none : B) (lanes : List Lane) (l : Lane) (v : ℕ) → lane_has what none (lanes ++ l ∷ []) v ≡ lane_has what (cond (is_to v l) (what l) none) lanes v
+lane_last : {B : Type 0} (what : PipePair → B) (none : B) (pairs : List PipePair) (l : PipePair) (v : ℕ) → lane_has what none (pairs ++ l ∷ []) v ≡ lane_has what (cond (is_to v l) (what l) none) pairs v
 lane_last what none [] l v = refl
-lane_last {B} what none (k ∷ lanes) l v = ap (λ (b : B). cond (is_to v k) (what k) b) (lane_last what none lanes l v)
+lane_last {B} what none (k ∷ pairs) l v = ap (λ (b : B). cond (is_to v k) (what k) b) (lane_last what none pairs l v)
 
-module _ {B : Type 0} (what : Lane → B) (none : B) (room : ℕ) (ns : List ℕ) (left : List (List Lane)) (link : Link) (links : List Link) (here there : Lane)
+module _ {B : Type 0} (what : PipePair → B) (none : B) (room : ℕ) (ns : List ℕ) (left : List (List PipePair)) (link : Link) (links : List Link) (here there : PipePair)
     (is : IsParted room ns link links left here there) (apart : link.one ≢ link.other) (once : AllByRecursion (λ l. Joins link l.one l.other → ⊥) links) where
   flipped : (ls : List Link) → AllByRecursion (λ l. Joins link l.one l.other → ⊥) ls → AllByRecursion (λ l. Joins l link.one link.other → ⊥) ls
   flipped [] all = tt
@@ -278,14 +278,14 @@ module _ {B : Type 0} (what : Lane → B) (none : B) (room : ℕ) (ns : List ℕ
   turned [] all = tt
   turned (l ∷ ls) all = (λ j. all.0 (elim j [ inl e ↦ inr (sym e.1, sym e.0) | inr e ↦ inl (sym e.0, sym e.1) ]), turned ls all.1)
 
-  abbrev lanes_of : ℕ → List Lane
+  abbrev lanes_of : ℕ → List PipePair
   lanes_of a = lanes_by ns left a
 
   free : (a b : ℕ) → AllByRecursion (λ l. Joins l a b → ⊥) links → reaches (lanes_of a) b ≡ false
   free a b never = reaches_wires (lanes_of a) b ∙ unreached room links (wires_by ns left) a b never is.dealt
 
-  -- a lane behind the others, the first to its peer
-  behind : (a b : ℕ) (l : Lane) (peer : ℕ) (e : Bool) → (peer == b) ≡ e → l.peer ≡ peer → (peer ≡ b → reaches (lanes_of a) b ≡ false)
+  -- a pair behind the others, the first to its peer
+  behind : (a b : ℕ) (l : PipePair) (peer : ℕ) (e : Bool) → (peer == b) ≡ e → l.peer ≡ peer → (peer ≡ b → reaches (lanes_of a) b ≡ false)
       → lane_has what none (lanes_of a ++ l ∷ []) b ≡ cond e (what l) (lane_has what none (lanes_of a) b)
   behind a b l peer true is_b to first =
       lane_last what none (lanes_of a) l b
@@ -305,7 +305,7 @@ module _ {B : Type 0} (what : Lane → B) (none : B) (room : ℕ) (ns : List ℕ
   more_by a b false true ec ed =
       behind a b there link.one (link.one == b) refl (ap (λ (w : Wire). w.peer) is.to_one)
       (λ k. free a b (subst (λ n. AllByRecursion (λ l. Joins l n b → ⊥) links) (eqb-true link.other a ed) (subst (λ n. AllByRecursion (λ l. Joins l link.other n → ⊥) links) k (turned links once))))
-  more_by a b false false ec ed = ap (λ (ls : List Lane). lane_has what none ls b) (append-nil (lanes_of a))
+  more_by a b false false ec ed = ap (λ (ls : List PipePair). lane_has what none ls b) (append-nil (lanes_of a))
 
   pub has_more : (a b : ℕ) → lane_has what none (lanes_of a ++ lanes_on link here there a) b
       ≡ cond ((link.one == a) && (link.other == b)) (what here) (cond ((link.other == a) && (link.one == b)) (what there) (lane_has what none (lanes_of a) b))
@@ -313,7 +313,7 @@ module _ {B : Type 0} (what : Lane → B) (none : B) (room : ℕ) (ns : List ℕ
 
 -- ---- what the ways have
 
-way_more : {B : Type 0} (what : Way → B) (none : B) (ws xs : List Way) (u v : ℕ) → way_has what none (ws ++ xs) u v ≡ way_has what (way_has what none xs u v) ws u v
+way_more : {B : Type 0} (what : ClosedPipe → B) (none : B) (ws xs : List ClosedPipe) (u v : ℕ) → way_has what none (ws ++ xs) u v ≡ way_has what (way_has what none xs u v) ws u v
 way_more what none [] xs u v = refl
 way_more {B} what none (w ∷ ws) xs u v = ap (λ (b : B). cond (leads u v w) (what w) b) (way_more what none ws xs u v)
 
@@ -336,28 +336,28 @@ swapped one other u v x y z false false true false ea eb ec ed apart = refl
 swapped one other u v x y z false false false true ea eb ec ed apart = refl
 swapped one other u v x y z false false false false ea eb ec ed apart = refl
 
--- so far as ways were closed: what the lanes had at first is what the ways have, or else the lanes that are left
-abbrev pub HaveSoFar : (first left : ℕ → List Lane) → List Way → Type 0
+-- so far as ways were closed: what the pairs had at first is what the ways have, or else the pairs that are left
+abbrev pub HaveSoFar : (first left : ℕ → List PipePair) → List ClosedPipe → Type 0
 HaveSoFar first left ways =
     (u v : ℕ) → (put_of (first u) v ≡ way_has (λ w. w.tail.put) (put_of (left u) v) ways u v)
     × (taken_of (first v) u ≡ way_has (λ w. w.tail.taken) (taken_of (left v) u) ways u v)
 
 -- the two ways of a link, closed
-pub record AreClosed (link : Link) (here there : Lane) (one two : Way) : Type 0 where
+pub record AreClosed (link : Link) (here there : PipePair) (one two : ClosedPipe) : Type 0 where
   pub out : (one.from ≡ link.one) × (one.to ≡ link.other)
   pub back : (two.from ≡ link.other) × (two.to ≡ link.one)
   pub put : (one.tail.put ≡ here.out.items) × (two.tail.put ≡ there.out.items)
   pub taken : (one.tail.taken ≡ there.into.items) × (two.tail.taken ≡ here.into.items)
 
-pub passed_more : (room : ℕ) (ns : List ℕ) (first : ℕ → List Lane) (all left : List (List Lane)) (link : Link) (links : List Link) (i j : ℕ) (here there : Lane) (ways : List Way) (one two : Way)
+pub passed_more : (room : ℕ) (ns : List ℕ) (first : ℕ → List PipePair) (all left : List (List PipePair)) (link : Link) (links : List Link) (i j : ℕ) (here there : PipePair) (ways : List ClosedPipe) (one two : ClosedPipe)
     → IsPlaced ns link i j → length left ≡ length ns → all ≡ with_lane (with_lane left i here) j there → IsParted room ns link links left here there
     → AllByRecursion (λ l. Joins link l.one l.other → ⊥) links → AreClosed link here there one two
     → HaveSoFar first (lanes_by ns all) ways → HaveSoFar first (lanes_by ns left) (ways ++ one ∷ two ∷ [])
 passed_more room ns first all left link links i j here there ways one two placed many same is once closed so_far = λ (u v : ℕ).
-    let lanes : (a : ℕ) → lanes_by ns all a ≡ lanes_by ns left a ++ lanes_on link here there a =
-    λ a. ap (λ (ls : List (List Lane)). lanes_by ns ls a) same ∙ two_more ns left link i j here there placed many a in
-    let put_now = ap (λ (l : List Lane). put_of l v) (lanes u) ∙ has_more (λ l. l.out.items) [] room ns left link links here there is placed.apart once u v in
-    let taken_now = ap (λ (l : List Lane). taken_of l u) (lanes v) ∙ has_more (λ l. l.into.items) [] room ns left link links here there is placed.apart once v u in (
+    let pairs : (a : ℕ) → lanes_by ns all a ≡ lanes_by ns left a ++ lanes_on link here there a =
+    λ a. ap (λ (ls : List (List PipePair)). lanes_by ns ls a) same ∙ two_more ns left link i j here there placed many a in
+    let put_now = ap (λ (l : List PipePair). put_of l v) (pairs u) ∙ has_more (λ l. l.out.items) [] room ns left link links here there is placed.apart once u v in
+    let taken_now = ap (λ (l : List PipePair). taken_of l u) (pairs v) ∙ has_more (λ l. l.into.items) [] room ns left link links here there is placed.apart once v u in (
       (so_far u v).0 ∙ ap (λ (xs : List Item). way_has (λ w. w.tail.put) xs ways u v)
           (put_now ∙ rw (closed.out.0, closed.out.1, closed.back.0, closed.back.1, closed.put.0, closed.put.1) refl)
           ∙ sym (way_more (λ w. w.tail.put) (put_of (lanes_by ns left u) v) ways (one ∷ two ∷ []) u v),
@@ -368,15 +368,15 @@ passed_more room ns first all left link links i j here there ways one two placed
           ∙ sym (way_more (λ w. w.tail.taken) (taken_of (lanes_by ns left v) u) ways (one ∷ two ∷ []) u v),
     )
 
--- where no lane is left, the ways have all
-pub all_passed : (room : ℕ) (ns : List ℕ) (first : ℕ → List Lane) (left : List (List Lane)) (ways : List Way) → Dealt room [] (wires_by ns left)
+-- where no pair is left, the ways have all
+pub all_passed : (room : ℕ) (ns : List ℕ) (first : ℕ → List PipePair) (left : List (List PipePair)) (ways : List ClosedPipe) → Dealt room [] (wires_by ns left)
     → HaveSoFar first (lanes_by ns left) ways → HavePassed first ways
 all_passed room ns first left ways none so_far = λ (u v : ℕ). (
-  (so_far u v).0 ∙ ap (λ (l : List Lane). way_has (λ w. w.tail.put) (put_of l v) ways u v) (no_lanes (lanes_by ns left u) (none u)),
-  (so_far u v).1 ∙ ap (λ (l : List Lane). way_has (λ w. w.tail.taken) (taken_of l u) ways u v) (no_lanes (lanes_by ns left v) (none v)),
+  (so_far u v).0 ∙ ap (λ (l : List PipePair). way_has (λ w. w.tail.put) (put_of l v) ways u v) (no_lanes (lanes_by ns left u) (none u)),
+  (so_far u v).1 ∙ ap (λ (l : List PipePair). way_has (λ w. w.tail.taken) (taken_of l u) ways u v) (no_lanes (lanes_by ns left v) (none v)),
 )
   where
-    no_lanes : (lanes : List Lane) → map wire_of lanes ≡ [] → lanes ≡ []
+    no_lanes : (pairs : List PipePair) → map wire_of pairs ≡ [] → pairs ≡ []
     no_lanes [] h = refl
     no_lanes (l ∷ ls) h = (let n : length (map wire_of (l ∷ ls)) ≡ length {A = Wire} [] = ap length h in absurd (omega (arith, n)))
 
@@ -419,25 +419,25 @@ pub link_at : (net : Plan) (links : List Link) → links ≡ net.links → IsNet
 link_at net links same is =
     subst (λ (ls : List Link). (i : ℕ) (d : Link) → i < length ls → IsLinkOf net (get_or ls i d) (drop (i + 1) ls)) (sym same) (link_in net is)
 
-many_numbers : (rs : List Router) → length (numbers rs) ≡ length rs
+many_numbers : (rs : List NetRouter) → length (numbers rs) ≡ length rs
 many_numbers [] = refl
 many_numbers (r ∷ rs) = ap suc (many_numbers rs)
 
-many_lanes : (es : List Ends) → length (lanes_in es) ≡ length es
+many_lanes : (es : List WorkerPipes) → length (lanes_in es) ≡ length es
 many_lanes [] = refl
 many_lanes (e ∷ es) = ap suc (many_lanes es)
 
-pub as_many : (net : Plan) (es : List Ends) → length es ≡ length net.routers → length (lanes_in es) ≡ length (numbers net.routers)
+pub as_many : (net : Plan) (es : List WorkerPipes) → length es ≡ length net.routers → length (lanes_in es) ≡ length (numbers net.routers)
 as_many net es many = many_lanes es ∙ many ∙ sym (many_numbers net.routers)
 
 -- ---- dealing
 
-no_lanes_by : (ns : List ℕ) (es : List Ends) (u : ℕ) → AllByRecursion (λ e. e.lanes.items ≡ []) es → lanes_by ns (lanes_in es) u ≡ []
+no_lanes_by : (ns : List ℕ) (es : List WorkerPipes) (u : ℕ) → AllByRecursion (λ e. e.pairs.items ≡ []) es → lanes_by ns (lanes_in es) u ≡ []
 no_lanes_by [] es u none = refl
 no_lanes_by (n ∷ ns) [] u none = refl
-no_lanes_by (n ∷ ns) (e ∷ es) u none = neither (n == u) e.lanes.items (lanes_by ns (lanes_in es) u) none.0 (no_lanes_by ns es u none.1)
+no_lanes_by (n ∷ ns) (e ∷ es) u none = neither (n == u) e.pairs.items (lanes_by ns (lanes_in es) u) none.0 (no_lanes_by ns es u none.1)
   where
-    neither : (b : Bool) (xs ys : List Lane) → xs ≡ [] → ys ≡ [] → cond b xs ys ≡ []
+    neither : (b : Bool) (xs ys : List PipePair) → xs ≡ [] → ys ≡ [] → cond b xs ys ≡ []
     neither true xs ys h k = h
     neither false xs ys h k = k
 
@@ -446,13 +446,13 @@ drop_all [] = refl
 drop_all (x ∷ xs) = drop_all xs
 
 -- at first no link is dealt
-pub dealt_none : (net : Plan) (links : List Link) (es : List Ends) → links ≡ net.links → AllByRecursion (λ e. e.lanes.items ≡ []) es → AreDealt net (drop (length links) net.links) es
+pub dealt_none : (net : Plan) (links : List Link) (es : List WorkerPipes) → links ≡ net.links → AllByRecursion (λ e. e.pairs.items ≡ []) es → AreDealt net (drop (length links) net.links) es
 dealt_none net links es same none =
     subst (λ (ls : List Link). AreDealt net ls es) (sym (drop_all net.links) ∙ ap (λ (ls : List Link). drop (length ls) net.links) (sym same))
     (λ (u : ℕ). ap (map wire_of) (no_lanes_by (numbers net.routers) es u none))
 
 -- one link more
-pub deal_one : (net : Plan) (links : List Link) (old new : List Ends) (room left i j : ℕ) (d : Link) → links ≡ net.links → IsNetwork net → room ≡ net.settings.pipe → 0 < left → left ≤ length net.links
+pub deal_one : (net : Plan) (links : List Link) (old new : List WorkerPipes) (room left i j : ℕ) (d : Link) → links ≡ net.links → IsNetwork net → room ≡ net.settings.pipe → 0 < left → left ≤ length net.links
     → i < length net.routers → j < length net.routers → HoldsAt (λ r. r.asn ≡ (get_or links (left - 1) d).one) net.routers i → HoldsAt (λ r. r.asn ≡ (get_or links (left - 1) d).other) net.routers j
     → length old ≡ length net.routers
     → AreDealt net (drop left net.links) old → IsJoined room (get_or links (left - 1) d) i j (lanes_in old) (lanes_in new) → AreDealt net (drop (left - 1) net.links) new
@@ -473,7 +473,7 @@ deal_one net links old new room left i j d same is rooms some few below_i below_
 
 -- ---- closing
 
-module _ (net : Plan) (links : List Link) (all : List Ends) (index i j : ℕ) (d : Link) (same : links ≡ net.links) (is : IsNetwork net) (below : index < length links)
+module _ (net : Plan) (links : List Link) (all : List WorkerPipes) (index i j : ℕ) (d : Link) (same : links ≡ net.links) (is : IsNetwork net) (below : index < length links)
     (below_i : i < length net.routers) (below_j : j < length net.routers)
     (one : HoldsAt (λ r. r.asn ≡ (get_or links index d).one) net.routers i) (other : HoldsAt (λ r. r.asn ≡ (get_or links index d).other) net.routers j)
     (many : length all ≡ length net.routers) (dealt : AreDealt net (drop index links) all) where
@@ -496,25 +496,25 @@ module _ (net : Plan) (links : List Link) (all : List Ends) (index i j : ℕ) (d
   pub has_other : get_or (lanes_in all) j [] ≡ [] → ⊥
   has_other = some_other net.settings.pipe (numbers net.routers) (lanes_in all) link_here rest_here i j placed_here (as_many net all many) dealt_here
 
-  module _ (mid : List Ends) (there : Lane) (many_mid : length mid ≡ length all) (first : lanes_in all ≡ with_lane (lanes_in mid) j there) where
+  module _ (mid : List WorkerPipes) (there : PipePair) (many_mid : length mid ≡ length all) (first : lanes_in all ≡ with_lane (lanes_in mid) j there) where
     pub has_one : get_or (lanes_in mid) i [] ≡ [] → ⊥
     has_one = some_one net.settings.pipe (numbers net.routers) (lanes_in all) (lanes_in mid) there link_here rest_here i j placed_here (as_many net mid (many_mid ∙ many)) first dealt_here
 
-    module _ (left : List Ends) (here : Lane) (many_left : length left ≡ length mid) (second : lanes_in mid ≡ with_lane (lanes_in left) i here) where
+    module _ (left : List WorkerPipes) (here : PipePair) (many_left : length left ≡ length mid) (second : lanes_in mid ≡ with_lane (lanes_in left) i here) where
       abbrev both : lanes_in all ≡ with_lane (with_lane (lanes_in left) i here) j there
-      both = first ∙ ap (λ (ls : List (List Lane)). with_lane ls j there) second
+      both = first ∙ ap (λ (ls : List (List PipePair)). with_lane ls j there) second
 
       pub part_here : IsParted net.settings.pipe (numbers net.routers) link_here rest_here (lanes_in left) here there
       part_here = parted net.settings.pipe (numbers net.routers) (lanes_in all) (lanes_in left) link_here rest_here i j here there placed_here (as_many net left (many_left ∙ many_mid ∙ many)) both dealt_here
 
-      pub pass_here : (lanes : ℕ → List Lane) (ways : List Way) (w x : Way) → AreClosed link_here here there w x
-          → HaveSoFar lanes (lanes_by (numbers net.routers) (lanes_in all)) ways → HaveSoFar lanes (lanes_by (numbers net.routers) (lanes_in left)) (ways ++ w ∷ x ∷ [])
-      pass_here lanes ways w x closed so_far =
-          passed_more net.settings.pipe (numbers net.routers) lanes (lanes_in all) (lanes_in left) link_here rest_here i j here there ways w x placed_here (as_many net left (many_left ∙ many_mid ∙ many)) both
+      pub pass_here : (pairs : ℕ → List PipePair) (ways : List ClosedPipe) (w x : ClosedPipe) → AreClosed link_here here there w x
+          → HaveSoFar pairs (lanes_by (numbers net.routers) (lanes_in all)) ways → HaveSoFar pairs (lanes_by (numbers net.routers) (lanes_in left)) (ways ++ w ∷ x ∷ [])
+      pass_here pairs ways w x closed so_far =
+          passed_more net.settings.pipe (numbers net.routers) pairs (lanes_in all) (lanes_in left) link_here rest_here i j here there ways w x placed_here (as_many net left (many_left ∙ many_mid ∙ many)) both
           part_here (link_at net links same is index d below).once closed so_far
 
 -- a pipe that was closed is a way of the network
-pub is_way : (net : Plan) (w : Way) (put take : End Item) → w.tail ≡ closed_at put.pipe put.room put.items take.items → put.items ≡ take.items ++ left w.tail → length (left w.tail) ≤ put.room
+pub is_way : (net : Plan) (w : ClosedPipe) (put take : End Item) → w.tail ≡ closed_at put.pipe put.room put.items take.items → put.items ≡ take.items ++ left w.tail → length (left w.tail) ≤ put.room
     → put.room ≡ net.settings.pipe → IsWay net w
 is_way net w put take tail rest few room = record {
   in_turn = ap (λ (c : Closed Item). c.put) tail ∙ rest ∙ ap (λ (xs : List Item). xs ++ left w.tail) (sym (ap (λ (c : Closed Item). c.taken) tail));
@@ -526,11 +526,11 @@ between_rest : (xs : List (ℕ × ℕ)) (a b : ℕ × ℕ) (rest : List (ℕ × 
 between_rest [] a b rest = refl
 between_rest (x ∷ xs) a b rest = ap (λ (ys : List (ℕ × ℕ)). x ∷ ys) (between_rest xs a b rest)
 
-abbrev pub from_to : Way → ℕ × ℕ
+abbrev pub from_to : ClosedPipe → ℕ × ℕ
 from_to w = (w.from, w.to)
 
 -- two ways more, and a link less
-pub between_more : (links : List Link) (index : ℕ) (d : Link) (ways : List Way) (w x : Way) (all : List (ℕ × ℕ)) → index < length links
+pub between_more : (links : List Link) (index : ℕ) (d : Link) (ways : List ClosedPipe) (w x : ClosedPipe) (all : List (ℕ × ℕ)) → index < length links
     → (w.from ≡ (get_or links index d).one) × (w.to ≡ (get_or links index d).other) → (x.from ≡ (get_or links index d).other) × (x.to ≡ (get_or links index d).one)
     → map from_to ways ++ flat_map both_ways (drop index links) ≡ all → map from_to (ways ++ w ∷ x ∷ []) ++ flat_map both_ways (drop (index + 1) links) ≡ all
 between_more links index d ways w x all below out back so_far =
@@ -542,10 +542,10 @@ between_more links index d ways w x all below out back so_far =
     ∙ so_far
 
 -- where no link is left, all has passed
-pub passed_at_last : (net : Plan) (links : List Link) (index : ℕ) (es : List Ends) (lanes : ℕ → List Lane) (ways : List Way) → length links ≤ index → AreDealt net (drop index links) es
-    → HaveSoFar lanes (lanes_by (numbers net.routers) (lanes_in es)) ways → HavePassed lanes ways
-passed_at_last net links index es lanes ways far dealt so_far =
-    all_passed net.settings.pipe (numbers net.routers) lanes (lanes_in es) ways (subst (λ (ls : List Link). AreDealt net ls es) (none_behind links index far) dealt) so_far
+pub passed_at_last : (net : Plan) (links : List Link) (index : ℕ) (es : List WorkerPipes) (pairs : ℕ → List PipePair) (ways : List ClosedPipe) → length links ≤ index → AreDealt net (drop index links) es
+    → HaveSoFar pairs (lanes_by (numbers net.routers) (lanes_in es)) ways → HavePassed pairs ways
+passed_at_last net links index es pairs ways far dealt so_far =
+    all_passed net.settings.pipe (numbers net.routers) pairs (lanes_in es) ways (subst (λ (ls : List Link). AreDealt net ls es) (none_behind links index far) dealt) so_far
   where
     none_behind : (ls : List Link) (n : ℕ) → length ls ≤ n → drop n ls ≡ []
     none_behind [] zero far = refl

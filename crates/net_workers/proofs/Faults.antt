@@ -10,7 +10,7 @@ use Rattle.worker_loop.specs.Whole.{IsLaterWorker}
 use Rattle.net_workers.specs.declared.record.RunFault.{RunFault}
 use Rattle.net_workers.specs.declared.record.RunFault.TheVariants as fault
 use Rattle.net_workers.specs.declared.record.Worked.{Worked}
-use Rattle.net_workers.specs.declared.running.Ended.{Ended}
+use Rattle.net_workers.specs.declared.running.Finished.{Finished}
 use Rattle.net_workers.specs.Lanes.{wires_of}
 use Rattle.net_workers.specs.Dealt.{AreDealt}
 use Rattle.net_workers.specs.Ran.{IsFresh, Ran, Ceased, worked_of, lines_of, fault_of, or_else, first_fault}
@@ -24,7 +24,7 @@ not_limits_by u None rest other h = other h
 not_limits_by u (Some worker.Memory) rest other h = cc
 not_limits_by u (Some worker.Refused) rest other h = cc
 
-not_limits : {G : Type 0} → (ends : List (Ended G)) → first_fault ends ≡ Some fault.BadLimits → ⊥
+not_limits : {G : Type 0} → (ends : List (Finished G)) → first_fault ends ≡ Some fault.BadLimits → ⊥
 not_limits [] h = cc
 not_limits (e ∷ es) h = not_limits_by e.worker.router.number e.fault (first_fault es) (not_limits es) h
 
@@ -33,7 +33,7 @@ never_differs_by u None rest other h = other h
 never_differs_by u (Some worker.Memory) rest other h = cc
 never_differs_by u (Some worker.Refused) rest other h = cc
 
-never_differs : {G : Type 0} → (ends : List (Ended G)) → first_fault ends ≡ Some fault.BoardDiffers → ⊥
+never_differs : {G : Type 0} → (ends : List (Finished G)) → first_fault ends ≡ Some fault.BoardDiffers → ⊥
 never_differs [] h = cc
 never_differs (e ∷ es) h = never_differs_by e.worker.router.number e.fault (first_fault es) (never_differs es) h
 
@@ -48,12 +48,12 @@ err_so (Ok x) P Q f h = tt
 err_so (Err e) P Q f h = f e h
 
 -- memory was wanting where no worker has a fault
-pub wants_memory : {A G : Type 0} → (r : Result A RunFault) (ends : List (Ended G)) → first_fault ends ≡ None → IsErrAnd r (λ why. why ≡ fault.Memory) → IfErr r (IsFaultOf ends)
+pub wants_memory : {A G : Type 0} → (r : Result A RunFault) (ends : List (Finished G)) → first_fault ends ≡ None → IsErrAnd r (λ why. why ≡ fault.Memory) → IfErr r (IsFaultOf ends)
 wants_memory (Ok x) ends quiet h = tt
 wants_memory (Err why) ends quiet h = inr (quiet, inl h)
 
 -- no fault of workers is one of limits
-pub is_inside : {G : Type 0} → (ends : List (Ended G)) (why : RunFault) → IsFaultOf ends why → why ≡ fault.BadLimits → ⊥
+pub is_inside : {G : Type 0} → (ends : List (Finished G)) (why : RunFault) → IsFaultOf ends why → why ≡ fault.BadLimits → ⊥
 is_inside ends fault.BadLimits (inl first) is = not_limits ends first
 is_inside ends fault.BadLimits (inr (quiet, inl wants)) is = cc
 is_inside ends fault.BadLimits (inr (quiet, inr differs)) is = cc
@@ -62,15 +62,15 @@ is_inside ends (fault.WorkerRefused u) h is = cc
 is_inside ends fault.BoardDiffers h is = cc
 
 -- what the gates of workers were told, in their record too
-pub worked_told : {G T : Type 0} → (told : G → T) (ends : List (Ended G)) → map (λ (w : Worked G). told w.gate) (map worked_of ends) ≡ map (λ (e : Ended G). told e.worker.gate) ends
+pub worked_told : {G T : Type 0} → (told : G → T) (ends : List (Finished G)) → map (λ (w : Worked G). told w.gate) (map worked_of ends) ≡ map (λ (e : Finished G). told e.worker.gate) ends
 worked_told told [] = refl
 worked_told told (e ∷ es) = ap (λ ts. told e.worker.gate ∷ ts) (worked_told told es)
 
 module _ {G : Type 0} (given : G → List Chore) (plan : Plan) (turns : ℕ) where
-  abbrev Later : List (Ended G) → List (Ended G) → Type 0
-  Later before after = (i : ℕ) (d : Ended G) → i < length before → IsLaterWorker wires_of (slice_index_or before i d).worker (slice_index_or after i d).worker
+  abbrev Later : List (Finished G) → List (Finished G) → Type 0
+  Later before after = (i : ℕ) (d : Finished G) → i < length before → IsLaterWorker wires_of (slice_index_or before i d).worker (slice_index_or after i d).worker
 
-  numbers_stay : (before after : List (Ended G)) → length after ≡ length before → Later before after
+  numbers_stay : (before after : List (Finished G)) → length after ≡ length before → Later before after
       → map (λ e. e.worker.router.number) after ≡ map (λ e. e.worker.router.number) before
   numbers_stay [] [] many later = refl
   numbers_stay [] (a ∷ ends) many later = absurd (omega (arith, many))
@@ -80,7 +80,7 @@ module _ {G : Type 0} (given : G → List Chore) (plan : Plan) (turns : ℕ) whe
       let rest = numbers_stay bs ends (omega (arith, many)) (λ i d below. later (suc i) d (omega (arith, below))) in
       λ i. here.number i ∷ rest i
 
-  nets_stay : (before after : List (Ended G)) → length after ≡ length before → Later before after → AllByRecursion (λ e. IsFresh given plan e.worker) before
+  nets_stay : (before after : List (Finished G)) → length after ≡ length before → Later before after → AllByRecursion (λ e. IsFresh given plan e.worker) before
       → AllByRecursion (λ e. e.worker.router.net ≡ plan) after
   nets_stay [] [] many later fresh = tt
   nets_stay [] (a ∷ ends) many later fresh = absurd (omega (arith, many))
@@ -90,10 +90,10 @@ module _ {G : Type 0} (given : G → List Chore) (plan : Plan) (turns : ℕ) whe
     nets_stay bs ends (omega (arith, many)) (λ i d below. later (suc i) d (omega (arith, below))) fresh.1,
   )
 
-  pub have_ended : (before after : List (Ended G)) → length after ≡ length before
-      → ((i : ℕ) (d : Ended G) → i < length before → IsLaterWorker wires_of (slice_index_or before i d).worker (slice_index_or after i d).worker)
-      → ((i : ℕ) (d : Ended G) → i < length before → IfSome (slice_index_or after i d).fault (Ceased given turns (slice_index_or after i d).worker))
-      → ((i : ℕ) (d : Ended G) → i < length before → IfNone (slice_index_or after i d).fault (Ran given turns (slice_index_or before i d).worker (slice_index_or after i d).worker))
+  pub have_ended : (before after : List (Finished G)) → length after ≡ length before
+      → ((i : ℕ) (d : Finished G) → i < length before → IsLaterWorker wires_of (slice_index_or before i d).worker (slice_index_or after i d).worker)
+      → ((i : ℕ) (d : Finished G) → i < length before → IfSome (slice_index_or after i d).fault (Ceased given turns (slice_index_or after i d).worker))
+      → ((i : ℕ) (d : Finished G) → i < length before → IfNone (slice_index_or after i d).fault (Ran given turns (slice_index_or before i d).worker (slice_index_or after i d).worker))
       → IsNetwork plan → map (λ e. e.worker.router.number) before ≡ numbers plan.routers → AllByRecursion (λ e. IsFresh given plan e.worker) before → AreDealt plan plan.links (map lines_of before)
       → HaveEnded given plan turns after
   have_ended before after many later ended ran network routers fresh dealt = record {
@@ -103,7 +103,7 @@ module _ {G : Type 0} (given : G → List Chore) (plan : Plan) (turns : ℕ) whe
     ran = record { network = network; before = before; routers = routers; fresh = fresh; dealt = dealt; many = many; ran = ran };
   }
 
-  pub fault_is : {T : Type 0} → (told : G → T) (tellings : List T) (ends : List (Ended G)) (why : RunFault) → HaveEnded given plan turns ends
+  pub fault_is : {T : Type 0} → (told : G → T) (tellings : List T) (ends : List (Finished G)) (why : RunFault) → HaveEnded given plan turns ends
       → map (λ e. told e.worker.gate) ends ≡ tellings → IsFaultOf ends why → FaultOf given told plan turns tellings why
   fault_is told tellings ends fault.Memory h same is = tt
   fault_is told tellings ends fault.BadLimits h same is = tt

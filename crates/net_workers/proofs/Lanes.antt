@@ -1,4 +1,4 @@
--- The lane to a peer: where it stands, and what a change of it makes of all lanes.
+-- The pair to a peer: where it stands, and what a change of it makes of all pairs.
 use Rattle.std.proofs.Common.{◌≡◌, ℕ, zero, suc, ◌+◌, ◌<◌, ◌≤◌, ◌==◌, Bool, true, false, cond, not, List, [], ◌∷◌, ◌++◌, length, map, Option, None, Some, refl, ap, sym, ◌∙◌, arith, subst, get_or, set}
 use Rattle.std.specs.Prelude.{nat_lt, MatchOption, Result, Ok, Err, OnOk, OnErr}
 use Rattle.ruled_pipe.specs.Ends.{End, with_item}
@@ -8,124 +8,124 @@ use Rattle.std.proofs.lemmas.Bool.{eqb-true, eqb-false, eq-eqb, ne_eqb}
 use Rattle.std.proofs.lemmas.Bool.Decides.{nat_tests}
 use Rattle.outbox.specs.declared.item.Item.{Item}
 use Rattle.worker_loop.specs.Acts.{grown}
-use Rattle.net_workers.specs.declared.ends.Lane.{Lane}
+use Rattle.net_workers.specs.declared.worker_pipes.PipePair.{PipePair}
 use Rattle.net_workers.specs.Lanes.{is_to, lane_has, reaches, Wire, wire_of, IsAt, IsFound}
 
 -- ---- where it stands
 
-at_head : (b : Bool) (l : Lane) (ls : List Lane) (v k : ℕ) → (l.peer == v) ≡ b → (k < length ls → IsAt ls v k)
+at_head : (b : Bool) (l : PipePair) (ls : List PipePair) (v k : ℕ) → (l.peer == v) ≡ b → (k < length ls → IsAt ls v k)
     → cond (not b) (1 + k) 0 < length (l ∷ ls) → IsAt (l ∷ ls) v (cond (not b) (1 + k) 0)
 at_head true l ls v k e rest h = eqb-true l.peer v e
 at_head false l ls v k e rest h =
     let one : suc k ≡ 1 + k = omega arith in
     subst (λ n. IsAt (l ∷ ls) v n) one (eqb-false l.peer v e, rest (omega arith))
 
-at_first : (ls : List Lane) (v : ℕ) → position_or_len (is_to v) ls < length ls → IsAt ls v (position_or_len (is_to v) ls)
+at_first : (ls : List PipePair) (v : ℕ) → position_or_len (is_to v) ls < length ls → IsAt ls v (position_or_len (is_to v) ls)
 at_first [] v h = absurd (omega arith)
 at_first (l ∷ ls) v h = at_head (l.peer == v) l ls v (position_or_len (is_to v) ls) refl (at_first ls v) h
 
-none_head : (b : Bool) (l : Lane) (ls : List Lane) (v k : ℕ) → (l.peer == v) ≡ b → (length ls ≤ k → reaches ls v ≡ false)
+none_head : (b : Bool) (l : PipePair) (ls : List PipePair) (v k : ℕ) → (l.peer == v) ≡ b → (length ls ≤ k → reaches ls v ≡ false)
     → length (l ∷ ls) ≤ cond (not b) (1 + k) 0 → reaches (l ∷ ls) v ≡ false
 none_head true l ls v k e rest h = absurd (omega arith)
 none_head false l ls v k e rest h = rw e (rest (omega arith))
 
-none_first : (ls : List Lane) (v : ℕ) → length ls ≤ position_or_len (is_to v) ls → reaches ls v ≡ false
+none_first : (ls : List PipePair) (v : ℕ) → length ls ≤ position_or_len (is_to v) ls → reaches ls v ≡ false
 none_first [] v h = refl
 none_first (l ∷ ls) v h = none_head (l.peer == v) l ls v (position_or_len (is_to v) ls) refl (none_first ls v) h
 
-is_below : (ls : List Lane) (v i : ℕ) → IsAt ls v i → i < length ls
+is_below : (ls : List PipePair) (v i : ℕ) → IsAt ls v i → i < length ls
 is_below [] v i h = absurd h
 is_below (l ∷ ls) v zero h = omega arith
 is_below (l ∷ ls) v (suc i) h = let k = is_below ls v i h.1 in omega arith
 
-seek_by : (b : Bool) (ls : List Lane) (v : ℕ) → nat_lt (position_or_len (is_to v) ls) (length ls) ≡ b
+seek_by : (b : Bool) (ls : List PipePair) (v : ℕ) → nat_lt (position_or_len (is_to v) ls) (length ls) ≡ b
     → MatchOption (cond b (Some (position_or_len (is_to v) ls)) None) (reaches ls v ≡ false) (IsFound ls v)
 seek_by true ls v e =
     let at = at_first ls v (grind (arith, nat_tests, e)) in
     (is_below ls v (position_or_len (is_to v) ls) at, at)
 seek_by false ls v e = none_first ls v (grind (arith, nat_tests, e))
 
-pub seek : (ls : List Lane) (v : ℕ) (r : Option ℕ) → r ≡ position (is_to v) ls → MatchOption r (reaches ls v ≡ false) (IsFound ls v)
+pub seek : (ls : List PipePair) (v : ℕ) (r : Option ℕ) → r ≡ position (is_to v) ls → MatchOption r (reaches ls v ≡ false) (IsFound ls v)
 seek ls v r is = rw is (seek_by (nat_lt (position_or_len (is_to v) ls) (length ls)) ls v refl)
 
 -- ---- what it has
 
-here_same : (ls : List Lane) (v i : ℕ) (d : Lane) → IsAt ls v i → (get_or ls i d).peer ≡ v
+here_same : (ls : List PipePair) (v i : ℕ) (d : PipePair) → IsAt ls v i → (get_or ls i d).peer ≡ v
 here_same [] v i d h = absurd h
 here_same (l ∷ ls) v zero d h = h
 here_same (l ∷ ls) v (suc i) d h = here_same ls v i d h.1
 
--- the lane to v, at its place
-pub record Here (ls : List Lane) (v i : ℕ) (l : Lane) : Type 0 where
+-- the pair to v, at its place
+pub record Here (ls : List PipePair) (v i : ℕ) (l : PipePair) : Type 0 where
   pub at : IsAt ls v i
   pub is : l ≡ get_or ls i l
 
-pub peer_is : (ls : List Lane) (v i : ℕ) (l : Lane) → Here ls v i l → l.peer ≡ v
-peer_is ls v i l h = ap (λ (k : Lane). k.peer) h.is ∙ here_same ls v i l h.at
+pub peer_is : (ls : List PipePair) (v i : ℕ) (l : PipePair) → Here ls v i l → l.peer ≡ v
+peer_is ls v i l h = ap (λ (k : PipePair). k.peer) h.is ∙ here_same ls v i l h.at
 
-module _ {B : Type 0} (what : Lane → B) (none : B) where
-  has_at : (ls : List Lane) (v i : ℕ) (d : Lane) → IsAt ls v i → lane_has what none ls v ≡ what (get_or ls i d)
+module _ {B : Type 0} (what : PipePair → B) (none : B) where
+  has_at : (ls : List PipePair) (v i : ℕ) (d : PipePair) → IsAt ls v i → lane_has what none ls v ≡ what (get_or ls i d)
   has_at [] v i d h = absurd h
   has_at (l ∷ ls) v zero d h = rw (eq-eqb l.peer v h) refl
   has_at (l ∷ ls) v (suc i) d h = rw (ne_eqb l.peer v h.0) (has_at ls v i d h.1)
 
-  pub has_here : (ls : List Lane) (v i : ℕ) (l : Lane) → Here ls v i l → lane_has what none ls v ≡ what l
+  pub has_here : (ls : List PipePair) (v i : ℕ) (l : PipePair) → Here ls v i l → lane_has what none ls v ≡ what l
   has_here ls v i l h = has_at ls v i l h.at ∙ ap what (sym h.is)
 
-  missing_by : (l : Lane) (ls : List Lane) (v : ℕ) (b : Bool) → (l.peer == v) ≡ b → (reaches ls v ≡ false → lane_has what none ls v ≡ none)
+  missing_by : (l : PipePair) (ls : List PipePair) (v : ℕ) (b : Bool) → (l.peer == v) ≡ b → (reaches ls v ≡ false → lane_has what none ls v ≡ none)
       → reaches (l ∷ ls) v ≡ false → lane_has what none (l ∷ ls) v ≡ none
   missing_by l ls v true e rest h = (let t = rw e at h in absurd cc)
   missing_by l ls v false e rest h = rw e (rest (rw e at h))
 
-  pub missing : (ls : List Lane) (v : ℕ) → reaches ls v ≡ false → lane_has what none ls v ≡ none
+  pub missing : (ls : List PipePair) (v : ℕ) → reaches ls v ≡ false → lane_has what none ls v ≡ none
   missing [] v h = refl
   missing (l ∷ ls) v h = missing_by l ls v (l.peer == v) refl (missing ls v) h
 
-  set_here : (ls : List Lane) (v i : ℕ) (l : Lane) → IsAt ls v i → l.peer ≡ v → lane_has what none (set ls i l) v ≡ what l
+  set_here : (ls : List PipePair) (v i : ℕ) (l : PipePair) → IsAt ls v i → l.peer ≡ v → lane_has what none (set ls i l) v ≡ what l
   set_here [] v i l h e = absurd h
   set_here (x ∷ xs) v zero l h e = rw (eq-eqb l.peer v e) refl
   set_here (x ∷ xs) v (suc i) l h e = rw (ne_eqb x.peer v h.0) (set_here xs v i l h.1 e)
 
-  set_there : (ls : List Lane) (v i : ℕ) (l : Lane) (w : ℕ) → IsAt ls v i → l.peer ≡ v → (v ≡ w → ⊥) → lane_has what none (set ls i l) w ≡ lane_has what none ls w
+  set_there : (ls : List PipePair) (v i : ℕ) (l : PipePair) (w : ℕ) → IsAt ls v i → l.peer ≡ v → (v ≡ w → ⊥) → lane_has what none (set ls i l) w ≡ lane_has what none ls w
   set_there [] v i l w h e n = absurd h
   set_there (x ∷ xs) v zero l w h e n = rw (ne_eqb l.peer w (λ q. n (sym e ∙ q)), ne_eqb x.peer w (λ q. n (sym h ∙ q))) refl
   set_there (x ∷ xs) v (suc i) l w h e n = ap (λ (s : B). cond (x.peer == w) (what x) s) (set_there xs v i l w h.1 e n)
 
-  kept_by : (ls : List Lane) (v i : ℕ) (l old : Lane) (w : ℕ) (b : Bool) → (v == w) ≡ b → Here ls v i old → l.peer ≡ old.peer → what l ≡ what old
+  kept_by : (ls : List PipePair) (v i : ℕ) (l old : PipePair) (w : ℕ) (b : Bool) → (v == w) ≡ b → Here ls v i old → l.peer ≡ old.peer → what l ≡ what old
       → lane_has what none (set ls i l) w ≡ lane_has what none ls w
   kept_by ls v i l old w true t h e same =
       subst (λ n. lane_has what none (set ls i l) n ≡ lane_has what none ls n) (eqb-true v w t)
       (set_here ls v i l h.at (e ∙ peer_is ls v i old h) ∙ same ∙ sym (has_here ls v i old h))
   kept_by ls v i l old w false t h e same = set_there ls v i l w h.at (e ∙ peer_is ls v i old h) (eqb-false v w t)
 
-  -- where the lane has what it had, all lanes have
-  pub kept : (ls : List Lane) (v i : ℕ) (l old : Lane) → Here ls v i old → l.peer ≡ old.peer → what l ≡ what old → lane_has what none (set ls i l) ≡ lane_has what none ls
+  -- where the pair has what it had, all pairs have
+  pub kept : (ls : List PipePair) (v i : ℕ) (l old : PipePair) → Here ls v i old → l.peer ≡ old.peer → what l ≡ what old → lane_has what none (set ls i l) ≡ lane_has what none ls
   kept ls v i l old h e same = fun_ext (λ w. kept_by ls v i l old w (v == w) refl h e same)
 
--- one item more passes one lane
-grows_by : (what : Lane → List Item) (ls : List Lane) (v i : ℕ) (l old : Lane) (x : Item) (w : ℕ) (b : Bool) → (v == w) ≡ b → Here ls v i old → l.peer ≡ old.peer
+-- one item more passes one pair
+grows_by : (what : PipePair → List Item) (ls : List PipePair) (v i : ℕ) (l old : PipePair) (x : Item) (w : ℕ) (b : Bool) → (v == w) ≡ b → Here ls v i old → l.peer ≡ old.peer
     → what l ≡ what old ++ x ∷ [] → lane_has what [] (set ls i l) w ≡ cond b (lane_has what [] ls w ++ x ∷ []) (lane_has what [] ls w)
 grows_by what ls v i l old x w true t h e more =
     subst (λ n. lane_has what [] (set ls i l) n ≡ lane_has what [] ls n ++ x ∷ []) (eqb-true v w t)
     (set_here what [] ls v i l h.at (e ∙ peer_is ls v i old h) ∙ more ∙ ap (λ k. k ++ x ∷ []) (sym (has_here what [] ls v i old h)))
 grows_by what ls v i l old x w false t h e more = set_there what [] ls v i l w h.at (e ∙ peer_is ls v i old h) (eqb-false v w t)
 
-pub grows : (what : Lane → List Item) (ls : List Lane) (v i : ℕ) (l old : Lane) (x : Item) → Here ls v i old → l.peer ≡ old.peer → what l ≡ what old ++ x ∷ []
+pub grows : (what : PipePair → List Item) (ls : List PipePair) (v i : ℕ) (l old : PipePair) (x : Item) → Here ls v i old → l.peer ≡ old.peer → what l ≡ what old ++ x ∷ []
     → lane_has what [] (set ls i l) ≡ grown (lane_has what [] ls) v x
 grows what ls v i l old x h e more = fun_ext (λ w. grows_by what ls v i l old x w (v == w) refl h e more)
 
-wires_at : (ls : List Lane) (v i : ℕ) (l : Lane) → IsAt ls v i → wire_of l ≡ wire_of (get_or ls i l) → map wire_of (set ls i l) ≡ map wire_of ls
+wires_at : (ls : List PipePair) (v i : ℕ) (l : PipePair) → IsAt ls v i → wire_of l ≡ wire_of (get_or ls i l) → map wire_of (set ls i l) ≡ map wire_of ls
 wires_at [] v i l h e = absurd h
 wires_at (x ∷ xs) v zero l h e = ap (λ (k : Wire). k ∷ map wire_of xs) e
 wires_at (x ∷ xs) v (suc i) l h e = ap (λ (ks : List Wire). wire_of x ∷ ks) (wires_at xs v i l h.1 e)
 
-default_is : (ls : List Lane) (v i : ℕ) (d e : Lane) → IsAt ls v i → get_or ls i d ≡ get_or ls i e
+default_is : (ls : List PipePair) (v i : ℕ) (d e : PipePair) → IsAt ls v i → get_or ls i d ≡ get_or ls i e
 default_is [] v i d e h = absurd h
 default_is (x ∷ xs) v zero d e h = refl
 default_is (x ∷ xs) v (suc i) d e h = default_is xs v i d e h.1
 
--- the lanes are of the same pipes
-pub same_wires : (ls : List Lane) (v i : ℕ) (l old : Lane) → Here ls v i old → wire_of l ≡ wire_of old → map wire_of (set ls i l) ≡ map wire_of ls
+-- the pairs are of the same pipes
+pub same_wires : (ls : List PipePair) (v i : ℕ) (l old : PipePair) → Here ls v i old → wire_of l ≡ wire_of old → map wire_of (set ls i l) ≡ map wire_of ls
 same_wires ls v i l old h e = wires_at ls v i l h.at (e ∙ ap wire_of (h.is ∙ default_is ls v i old l h.at))
 
 -- ---- ends of pipes

@@ -1,7 +1,7 @@
 -- Lists that are made one by one.
 use Rattle.std.proofs.Common.{◌≡◌, ℕ, zero, suc, arith, ◌+◌, ◌<◌, take, subst, add-one, List, [], ◌∷◌, ◌++◌, map, length, drop, get_or, refl, sym, ap, ◌∙◌}
 use Rattle.std.specs.List.{AllByRecursion}
-use Rattle.ranked_policy.specs.declared.network.Router.{Router}
+use Rattle.ranked_policy.specs.declared.network.NetRouter.{NetRouter}
 use Rattle.ranked_policy.specs.Plans.{IsRouter, numbers}
 use Rattle.std.proofs.lemmas.List.{drop_more, map-append}
 use Rattle.std.proofs.Math.Seq.{take-suc}
@@ -27,9 +27,9 @@ pub shorter : {X : Type 0} → (xs ys : List X) (x : X) (i n : ℕ) → xs ≡ x
 shorter xs ys x i n e h = let k : length xs ≡ length (x ∷ ys) = ap length e in omega (arith, h, k)
 
 -- a router of a list bears one of its numbers
-pub is_router : (rs : List Router) (i : ℕ) (r : Router) → i < length rs → r ≡ get_or rs i r → IsRouter rs r.asn
+pub is_router : (rs : List NetRouter) (i : ℕ) (r : NetRouter) → i < length rs → r ≡ get_or rs i r → IsRouter rs r.asn
 is_router [] i r below is = absurd (omega (arith, below))
-is_router (x ∷ xs) zero r below is = (0, (let some : 0 < length (numbers (x ∷ xs)) = omega arith in some), ap (λ (k : Router). k.asn) (sym is))
+is_router (x ∷ xs) zero r below is = (0, (let some : 0 < length (numbers (x ∷ xs)) = omega arith in some), ap (λ (k : NetRouter). k.asn) (sym is))
 is_router (x ∷ xs) (suc i) r below is =
     let k = is_router xs i r (omega (arith, below)) is in
     (suc k.0, (let more = k.1 in let some : suc k.0 < length (numbers (x ∷ xs)) = omega (arith, more) in some), k.2)

@@ -21,12 +21,12 @@ use Rattle.worker_loop.specs.Following.{Follows}
 use Rattle.worker_loop.specs.Laws.{WhatFollowsIsDone}
 use Rattle.offer_board.specs.declared.board.Made.{Made}
 use Rattle.offer_board.specs.Boards.{collected, collected_in, offers_in}
-use Rattle.net_workers.specs.declared.ends.Lane.{Lane}
+use Rattle.net_workers.specs.declared.worker_pipes.PipePair.{PipePair}
 use Rattle.net_workers.specs.declared.record.Worked.{Worked}
 use Rattle.net_workers.specs.declared.record.RunFault.{RunFault}
-use Rattle.net_workers.specs.declared.running.Ended.{Ended}
+use Rattle.net_workers.specs.declared.running.Finished.{Finished}
 use Rattle.net_workers.specs.Lanes.{put_of, taken_of, room_of, IsNew}
-use Rattle.worker_loop.specs.declared.journal.Entry.{Entry}
+use Rattle.worker_loop.specs.declared.journal.WorkerEvent.{WorkerEvent}
 use Rattle.net_workers.specs.Gathered.{all_events, IsSorted}
 use Rattle.net_workers.specs.Ran.{IsRecord, Passed, IsFresh, Ran, IsTold, HasWorked, OffersOf, worked_of, fault_of, or_else, first_fault, put_by, taken_by, passed_by, seen}
 
@@ -55,14 +55,14 @@ no_fault u (Some worker.Memory) rest h = absurd cc
 no_fault u (Some worker.Refused) rest h = absurd cc
 
 module _ {G : Type 0} where
-  abbrev pub Zipped : (Ended G → Ended G → Type 0) → List (Ended G) → List (Ended G) → Type 0
+  abbrev pub Zipped : (Finished G → Finished G → Type 0) → List (Finished G) → List (Finished G) → Type 0
   Zipped R [] [] = Unit {0}
   Zipped R (b ∷ bs) (a ∷ ends) = R b a × Zipped R bs ends
   Zipped R [] (a ∷ ends) = ⊥
   Zipped R (b ∷ bs) [] = ⊥
 
-  pub zipped : (R : Ended G → Ended G → Type 0) (before after : List (Ended G)) → length after ≡ length before → first_fault after ≡ None
-      → ((i : ℕ) (d : Ended G) → i < length before → IfNone (slice_index_or after i d).fault (R (slice_index_or before i d) (slice_index_or after i d)))
+  pub zipped : (R : Finished G → Finished G → Type 0) (before after : List (Finished G)) → length after ≡ length before → first_fault after ≡ None
+      → ((i : ℕ) (d : Finished G) → i < length before → IfNone (slice_index_or after i d).fault (R (slice_index_or before i d) (slice_index_or after i d)))
       → Zipped R before after
   zipped R [] [] many none ran = tt
   zipped R [] (a ∷ ends) many none ran = absurd (omega (arith, many))
@@ -73,7 +73,7 @@ module _ {G : Type 0} where
         zipped R bs ends (omega (arith, many)) quiet.1 (λ i d below. ran (suc i) d (omega (arith, below))),
       )
 
-  pub same_numbers : (R : Ended G → Ended G → Type 0) → ((b a : Ended G) → R b a → a.worker.router.number ≡ b.worker.router.number) → (before after : List (Ended G)) → Zipped R before after
+  pub same_numbers : (R : Finished G → Finished G → Type 0) → ((b a : Finished G) → R b a → a.worker.router.number ≡ b.worker.router.number) → (before after : List (Finished G)) → Zipped R before after
       → map (λ e. e.worker.router.number) after ≡ map (λ e. e.worker.router.number) before
   same_numbers R f [] [] z = refl
   same_numbers R f [] (a ∷ ends) z = absurd z
@@ -94,26 +94,26 @@ pub all_both : {X : Type 0} → (P Q S : X → Type 0) → ((x : X) → P x → 
 all_both P Q S f [] p q = tt
 all_both P Q S f (x ∷ xs) p q = (f x p.0 q.0, all_both P Q S f xs p.1 q.1)
 
--- ---- what each router's lanes have
+-- ---- what each router's pairs have
 
 module _ {G : Type 0} where
-  abbrev pub number : Ended G → ℕ
+  abbrev pub number : Finished G → ℕ
   number e = e.worker.router.number
 
   -- the first has the least number
-  pub all_above : (e : Ended G) (es : List (Ended G)) → AllPairs (λ a b. a < b) (map number (e ∷ es)) → AllByRecursion (λ x. number e < number x) es
+  pub all_above : (e : Finished G) (es : List (Finished G)) → AllPairs (λ a b. a < b) (map number (e ∷ es)) → AllByRecursion (λ x. number e < number x) es
   all_above e es rising = all_of_map number (λ n. number e < n) es (all_by (λ n. number e < n) (map number es) (λ i d below. rising 0 (suc i) d (omega arith) (omega (arith, below))))
 
-  abbrev HasLanes : List (Ended G) → Ended G → Type 0
-  HasLanes all e = (put_by all (number e) ≡ put_of e.worker.lines.lanes.items) × (taken_by all (number e) ≡ taken_of e.worker.lines.lanes.items)
+  abbrev HasLanes : List (Finished G) → Finished G → Type 0
+  HasLanes all e = (put_by all (number e) ≡ put_of e.worker.lines.pairs.items) × (taken_by all (number e) ≡ taken_of e.worker.lines.pairs.items)
 
-  lanes_there : (e : Ended G) (es : List (Ended G)) (x : Ended G) → number e ≢ number x → HasLanes es x → HasLanes (e ∷ es) x
+  lanes_there : (e : Finished G) (es : List (Finished G)) (x : Finished G) → number e ≢ number x → HasLanes es x → HasLanes (e ∷ es) x
   lanes_there e es x apart h = (
     fun_ext (λ v. rw (ne_eqb (number e) (number x) apart) refl) ∙ h.0,
     fun_ext (λ v. rw (ne_eqb (number e) (number x) apart) refl) ∙ h.1,
   )
 
-  pub lanes_are : (es : List (Ended G)) → AllPairs (λ a b. a < b) (map number es) → AllByRecursion (HasLanes es) es
+  pub lanes_are : (es : List (Finished G)) → AllPairs (λ a b. a < b) (map number es) → AllByRecursion (HasLanes es) es
   lanes_are [] rising = tt
   lanes_are (e ∷ es) rising = (
     (fun_ext (λ v. rw (eq-eqb (number e) (number e) refl) refl), fun_ext (λ v. rw (eq-eqb (number e) (number e) refl) refl)),
@@ -123,11 +123,11 @@ module _ {G : Type 0} where
   )
 
   -- the pipes of a router hold as many items as the network says
-  abbrev pub HasRooms : Plan → Ended G → Type 0
-  HasRooms plan e = (v : ℕ) → linked plan (number e) v ≡ true → room_of e.worker.lines.lanes.items v ≡ plan.settings.pipe
+  abbrev pub HasRooms : Plan → Finished G → Type 0
+  HasRooms plan e = (v : ℕ) → linked plan (number e) v ≡ true → room_of e.worker.lines.pairs.items v ≡ plan.settings.pipe
 
   -- nothing passed by who is no router
-  nobody_by : (e : Ended G) (es : List (Ended G)) (u : ℕ) (b : Bool) → (number e == u) ≡ b → (Contains (map number (e ∷ es)) u → ⊥)
+  nobody_by : (e : Finished G) (es : List (Finished G)) (u : ℕ) (b : Bool) → (number e == u) ≡ b → (Contains (map number (e ∷ es)) u → ⊥)
       → ((v : ℕ) → (Contains (map number es) u → ⊥) → (put_by es u v ≡ []) × (taken_by es u v ≡ []))
       → (v : ℕ) → (put_by (e ∷ es) u v ≡ []) × (taken_by (e ∷ es) u v ≡ [])
   nobody_by e es u true is absent rest v = absurd (absent (0, (let some : 0 < length (map number (e ∷ es)) = omega arith in some), eqb-true (number e) u is))
@@ -135,29 +135,29 @@ module _ {G : Type 0} where
       let r = rest v (λ k. absent (suc k.0, (let more = k.1 in let some : suc k.0 < length (map number (e ∷ es)) = omega (arith, more) in some), k.2)) in
       (rw is r.0, rw is r.1)
 
-  pub nobody : (es : List (Ended G)) (u v : ℕ) → (Contains (map number es) u → ⊥) → (put_by es u v ≡ []) × (taken_by es u v ≡ [])
+  pub nobody : (es : List (Finished G)) (u v : ℕ) → (Contains (map number es) u → ⊥) → (put_by es u v ≡ []) × (taken_by es u v ≡ [])
   nobody [] u v absent = (refl, refl)
   nobody (e ∷ es) u v absent = nobody_by e es u (number e == u) refl absent (λ w rest. nobody es u w rest) v
 
--- ---- lanes over which nothing passed
+-- ---- pairs over which nothing passed
 
 both_none : (b : Bool) (x y : List Item) → x ≡ [] → y ≡ [] → cond b x y ≡ []
 both_none true x y p q = p
 both_none false x y p q = q
 
-put_none : (ls : List Lane) (v : ℕ) → AllByRecursion IsNew ls → put_of ls v ≡ []
+put_none : (ls : List PipePair) (v : ℕ) → AllByRecursion IsNew ls → put_of ls v ≡ []
 put_none [] v all = refl
 put_none (l ∷ ls) v all = both_none (l.peer == v) l.out.items (put_of ls v) all.0.put (put_none ls v all.1)
 
-taken_none : (ls : List Lane) (v : ℕ) → AllByRecursion IsNew ls → taken_of ls v ≡ []
+taken_none : (ls : List PipePair) (v : ℕ) → AllByRecursion IsNew ls → taken_of ls v ≡ []
 taken_none [] v all = refl
 taken_none (l ∷ ls) v all = both_none (l.peer == v) l.into.items (taken_of ls v) all.0.taken (taken_none ls v all.1)
 
 -- ---- one worker
 
 module _ {G : Type 0} (law : WhatFollowsIsDone) (given : G → List Chore) (plan : Plan) (turns : ℕ) (p : Passed) where
-  told : (b a : Ended G) → IsFresh given plan b.worker → HasRooms plan b → Ran given turns b.worker a.worker
-      → put_of a.worker.lines.lanes.items ≡ p.put a.worker.router.number → taken_of a.worker.lines.lanes.items ≡ p.taken a.worker.router.number
+  told : (b a : Finished G) → IsFresh given plan b.worker → HasRooms plan b → Ran given turns b.worker a.worker
+      → put_of a.worker.lines.pairs.items ≡ p.put a.worker.router.number → taken_of a.worker.lines.pairs.items ≡ p.taken a.worker.router.number
       → (g : Setting) → g.net ≡ plan → IsSetting g → IsTold given g p (worked_of a)
   told b a fresh rooms ran put taken g is set =
       let u = a.worker.router.number in
@@ -172,8 +172,8 @@ module _ {G : Type 0} (law : WhatFollowsIsDone) (given : G → List Chore) (plan
         acts = f.0;
         follows = follows;
         opening = fresh.router ∙ ap new_stamped (sym is);
-        nothing_put = fun_ext (λ v. put_none b.worker.lines.lanes.items v fresh.lanes);
-        nothing_taken = fun_ext (λ v. taken_none b.worker.lines.lanes.items v fresh.lanes);
+        nothing_put = fun_ext (λ v. put_none b.worker.lines.pairs.items v fresh.pairs);
+        nothing_taken = fun_ext (λ v. taken_none b.worker.lines.pairs.items v fresh.pairs);
         room = λ v link. rooms v (ap (λ k. linked k b.worker.router.number v) (sym is) ∙ ap (λ n. linked g.net n v) (sym ran.same.number) ∙ link) ∙ ap (λ k. k.settings.pipe) (sym is);
         router = refl;
         put = put;
@@ -183,8 +183,8 @@ module _ {G : Type 0} (law : WhatFollowsIsDone) (given : G → List Chore) (plan
         offers = sym (done.made ∙ ap (λ l. collected_in l ++ stamped_offers f.0) fresh.made);
       }
 
-  has_worked : (b a : Ended G) → IsFresh given plan b.worker → HasRooms plan b → Ran given turns b.worker a.worker
-      → put_of a.worker.lines.lanes.items ≡ p.put a.worker.router.number → taken_of a.worker.lines.lanes.items ≡ p.taken a.worker.router.number
+  has_worked : (b a : Finished G) → IsFresh given plan b.worker → HasRooms plan b → Ran given turns b.worker a.worker
+      → put_of a.worker.lines.pairs.items ≡ p.put a.worker.router.number → taken_of a.worker.lines.pairs.items ≡ p.taken a.worker.router.number
       → HasWorked given plan turns p (worked_of a)
   has_worked b a fresh rooms ran put taken = record {
     net = ran.same.net ∙ fresh.net;
@@ -193,18 +193,18 @@ module _ {G : Type 0} (law : WhatFollowsIsDone) (given : G → List Chore) (plan
     told = told b a fresh rooms ran put taken;
   }
 
-  pub all_worked : (before after : List (Ended G)) → Zipped (λ b a. Ran given turns b.worker a.worker) before after → AllByRecursion (λ e. IsFresh given plan e.worker) before → AllByRecursion (HasRooms plan) before
-      → AllByRecursion (λ e. (p.put e.worker.router.number ≡ put_of e.worker.lines.lanes.items) × (p.taken e.worker.router.number ≡ taken_of e.worker.lines.lanes.items)) after
+  pub all_worked : (before after : List (Finished G)) → Zipped (λ b a. Ran given turns b.worker a.worker) before after → AllByRecursion (λ e. IsFresh given plan e.worker) before → AllByRecursion (HasRooms plan) before
+      → AllByRecursion (λ e. (p.put e.worker.router.number ≡ put_of e.worker.lines.pairs.items) × (p.taken e.worker.router.number ≡ taken_of e.worker.lines.pairs.items)) after
       → AllByRecursion (HasWorked given plan turns p) (map worked_of after)
-  all_worked [] [] z fresh rooms lanes = tt
-  all_worked [] (a ∷ ends) z fresh rooms lanes = absurd z
-  all_worked (b ∷ bs) [] z fresh rooms lanes = absurd z
-  all_worked (b ∷ bs) (a ∷ ends) z fresh rooms lanes =
-      (has_worked b a fresh.0 rooms.0 z.0 (sym lanes.0.0) (sym lanes.0.1), all_worked bs ends z.1 fresh.1 rooms.1 lanes.1)
+  all_worked [] [] z fresh rooms pairs = tt
+  all_worked [] (a ∷ ends) z fresh rooms pairs = absurd z
+  all_worked (b ∷ bs) [] z fresh rooms pairs = absurd z
+  all_worked (b ∷ bs) (a ∷ ends) z fresh rooms pairs =
+      (has_worked b a fresh.0 rooms.0 z.0 (sym pairs.0.0) (sym pairs.0.1), all_worked bs ends z.1 fresh.1 rooms.1 pairs.1)
 
 -- ---- the offers of a board
 
-pub offers_of : {G : Type 0} → (board : List Made) (after : List (Ended G)) → AllByRecursion (OffersOf board) after
+pub offers_of : {G : Type 0} → (board : List Made) (after : List (Finished G)) → AllByRecursion (OffersOf board) after
     → AllByRecursion (λ (w : Worked G). filter (λ o. o.router == w.router.number) (collected_in board) ≡ collected_in w.journal.offers.items) (map worked_of after)
 offers_of board [] all = tt
 offers_of board (e ∷ es) all = (all.0, offers_of board es all.1)
@@ -223,9 +223,9 @@ only plan (o ∷ os) u absent all =
 -- ---- the gates
 
 module _ {G T : Type 0} (told : G → T) where
-  same_told : (before after : List (Ended G)) → length after ≡ length before
-      → ((i : ℕ) (d : Ended G) → i < length before → told (slice_index_or after i d).worker.gate ≡ told (slice_index_or before i d).worker.gate)
-      → map (λ (e : Ended G). told e.worker.gate) after ≡ map told (map (λ (e : Ended G). e.worker.gate) before)
+  same_told : (before after : List (Finished G)) → length after ≡ length before
+      → ((i : ℕ) (d : Finished G) → i < length before → told (slice_index_or after i d).worker.gate ≡ told (slice_index_or before i d).worker.gate)
+      → map (λ (e : Finished G). told e.worker.gate) after ≡ map told (map (λ (e : Finished G). e.worker.gate) before)
   same_told [] [] many kept = refl
   same_told [] (a ∷ ends) many kept = absurd (omega (arith, many))
   same_told (b ∷ bs) [] many kept = absurd (omega (arith, many))
@@ -235,33 +235,33 @@ module _ {G T : Type 0} (told : G → T) where
       λ i. here i ∷ rest i
 
   -- router by router those that were given
-  pub gates_are : (before after : List (Ended G)) (gates : List G) → length after ≡ length before
-      → ((i : ℕ) (d : Ended G) → i < length before → told (slice_index_or after i d).worker.gate ≡ told (slice_index_or before i d).worker.gate)
-      → map (λ (e : Ended G). e.worker.gate) before ≡ gates → map (λ (e : Ended G). told e.worker.gate) after ≡ map told gates
+  pub gates_are : (before after : List (Finished G)) (gates : List G) → length after ≡ length before
+      → ((i : ℕ) (d : Finished G) → i < length before → told (slice_index_or after i d).worker.gate ≡ told (slice_index_or before i d).worker.gate)
+      → map (λ (e : Finished G). e.worker.gate) before ≡ gates → map (λ (e : Finished G). told e.worker.gate) after ≡ map told gates
   gates_are before after gates many kept given = same_told before after many kept ∙ ap (map told) given
 
 -- ---- the record
 
-same_routers : {G : Type 0} → (after : List (Ended G)) → map (λ (w : Worked G). w.router.number) (map worked_of after) ≡ map number after
+same_routers : {G : Type 0} → (after : List (Finished G)) → map (λ (w : Worked G). w.router.number) (map worked_of after) ≡ map number after
 same_routers [] = refl
 same_routers (e ∷ es) = ap (λ (ns : List ℕ). number e ∷ ns) (same_routers es)
 
-pub record_is : {G : Type 0} → (law : WhatFollowsIsDone) (given : G → List Chore) (plan : Plan) (turns : ℕ) (before after : List (Ended G)) (done : List (Worked G)) (c : CollectorView) (gathered : List Entry)
+pub record_is : {G : Type 0} → (law : WhatFollowsIsDone) (given : G → List Chore) (plan : Plan) (turns : ℕ) (before after : List (Finished G)) (done : List (Worked G)) (c : CollectorView) (gathered : List WorkerEvent)
     (board : List Made) → IsNetwork plan → map number before ≡ numbers plan.routers → AllByRecursion (λ e. IsFresh given plan e.worker) before → AllByRecursion (HasRooms plan) before
     → length after ≡ length before → first_fault after ≡ None
-    → ((i : ℕ) (d : Ended G) → i < length before → IfNone (slice_index_or after i d).fault (Ran given turns (slice_index_or before i d).worker (slice_index_or after i d).worker))
+    → ((i : ℕ) (d : Finished G) → i < length before → IfNone (slice_index_or after i d).fault (Ran given turns (slice_index_or before i d).worker (slice_index_or after i d).worker))
     → done ≡ map worked_of after → IsSorted (all_events done) gathered → AllByRecursion (OffersOf board) after → AllByRecursion (λ o. IsRouter plan.routers (router_of o.offer)) board
     → Pairwise (λ a b. a.stamp < b.stamp) (collected_in board) → made_for c ≡ with_offers (λ s. []) (offers_in board) → AreMembers plan c.members
     → IsRecord given plan turns (passed_by after) done c gathered
 record_is law given plan turns before after done c gathered board network numbered fresh rooms many quiet ran is sorted offers known rising made members =
     let z = zipped (λ b a. Ran given turns b.worker a.worker) before after many quiet ran in
     let all : map number after ≡ numbers plan.routers = same_numbers (λ b a. Ran given turns b.worker a.worker) (λ b a r. r.same.number) before after z ∙ numbered in
-    let lanes = lanes_are after (subst (AllPairs (λ a b. a < b)) (sym all) network.plan.rising) in
+    let pairs = lanes_are after (subst (AllPairs (λ a b. a < b)) (sym all) network.plan.rising) in
     subst (λ (ws : List (Worked _)). IsSorted (all_events ws) gathered → IsRecord given plan turns (passed_by after) ws c gathered) (sym is)
     (λ so. record {
       routers = same_routers after ∙ all;
       nobody = λ u v absent. nobody after u v (λ k. absent (subst (λ ns. Contains ns u) all k));
-      worked = all_worked law given plan turns (passed_by after) before after z fresh rooms lanes;
+      worked = all_worked law given plan turns (passed_by after) before after z fresh rooms pairs;
       sorted = so;
       collects = record {
         offers = collected_in board;

@@ -7,8 +7,8 @@ use Rattle.ranked_policy.specs.declared.network.Link.{Link}
 use Rattle.ranked_policy.specs.Plans.{Plan, numbers}
 use Rattle.ruled_pipe.specs.Ends.{TableId}
 use Rattle.router_model.specs.Settings.{joins, linked}
-use Rattle.net_workers.specs.declared.ends.Lane.{Lane}
-use Rattle.net_workers.specs.declared.running.Ended.{Ended}
+use Rattle.net_workers.specs.declared.worker_pipes.PipePair.{PipePair}
+use Rattle.net_workers.specs.declared.running.Finished.{Finished}
 use Rattle.net_workers.specs.Lanes.{Wire, wire_of, room_of}
 use Rattle.net_workers.specs.Dealt.{lanes_in, lanes_by, wires_on, Dealt, wires_by, AreDealt}
 use Rattle.net_workers.specs.Ran.{lines_of}
@@ -21,7 +21,7 @@ abbrev wire_room : List Wire → ℕ → ℕ
 wire_room [] v = 0
 wire_room (w ∷ ws) v = cond (w.peer == v) w.room (wire_room ws v)
 
-room_wires : (lanes : List Lane) (v : ℕ) → room_of lanes v ≡ wire_room (map wire_of lanes) v
+room_wires : (pairs : List PipePair) (v : ℕ) → room_of pairs v ≡ wire_room (map wire_of pairs) v
 room_wires [] v = refl
 room_wires (l ∷ ls) v = ap (λ (n : ℕ). cond (l.peer == v) l.out.room n) (room_wires ls v)
 
@@ -94,14 +94,14 @@ module _ (room : ℕ) where
       ap (λ (ws : List Wire). wire_reaches ws v) (dealt.4 u)
       ∙ joined_by l (dealt.0 u) dealt.1 dealt.2 u v (joins u v l) (list_any (joins u v) ls) refl h (joined ls dealt.0 u v dealt.3)
 
--- ---- by the lanes of workers
+-- ---- by the pairs of workers
 
 module _ {G : Type 0} where
-  -- the lanes of a worker are those of its router
-  abbrev AreLanesOf : List (Ended G) → Ended G → Type 0
-  AreLanesOf all e = lanes_by (map number all) (lanes_in (map lines_of all)) (number e) ≡ e.worker.lines.lanes.items
+  -- the pairs of a worker are those of its router
+  abbrev AreLanesOf : List (Finished G) → Finished G → Type 0
+  AreLanesOf all e = lanes_by (map number all) (lanes_in (map lines_of all)) (number e) ≡ e.worker.lines.pairs.items
 
-  lanes_at : (es : List (Ended G)) → AllPairs (λ a b. a < b) (map number es) → AllByRecursion (AreLanesOf es) es
+  lanes_at : (es : List (Finished G)) → AllPairs (λ a b. a < b) (map number es) → AllByRecursion (AreLanesOf es) es
   lanes_at [] rising = tt
   lanes_at (e ∷ es) rising = (
     rw (eq-eqb (number e) (number e) refl) refl,
@@ -110,20 +110,20 @@ module _ {G : Type 0} where
         es (all_above e es rising) (lanes_at es (λ i j d a b. rising (suc i) (suc j) d (omega (arith, a)) (omega (arith, b)))),
   )
 
-  rooms_by : (plan : Plan) (all es : List (Ended G)) → Dealt plan.settings.pipe plan.links (wires_by (map number all) (lanes_in (map lines_of all))) → AllByRecursion (AreLanesOf all) es
+  rooms_by : (plan : Plan) (all es : List (Finished G)) → Dealt plan.settings.pipe plan.links (wires_by (map number all) (lanes_in (map lines_of all))) → AllByRecursion (AreLanesOf all) es
       → AllByRecursion (HasRooms plan) es
   rooms_by plan all [] dealt at = tt
   rooms_by plan all (e ∷ es) dealt at =
       let room = plan.settings.pipe in
       let wires = wires_by (map number all) (lanes_in (map lines_of all)) in (
         λ v link.
-            ap (λ (ls : List Lane). room_of ls v) (sym at.0)
+            ap (λ (ls : List PipePair). room_of ls v) (sym at.0)
             ∙ room_wires (lanes_by (map number all) (lanes_in (map lines_of all)) (number e)) v
             ∙ reached_room room (wires (number e)) v (dealt_room room plan.links wires (number e) dealt) (joined room plan.links wires (number e) v dealt link),
         rooms_by plan all es dealt at.1,
       )
 
-  pub rooms_are : (plan : Plan) (es : List (Ended G)) → AllPairs (λ a b. a < b) (numbers plan.routers) → map number es ≡ numbers plan.routers → AreDealt plan plan.links (map lines_of es)
+  pub rooms_are : (plan : Plan) (es : List (Finished G)) → AllPairs (λ a b. a < b) (numbers plan.routers) → map number es ≡ numbers plan.routers → AreDealt plan plan.links (map lines_of es)
       → AllByRecursion (HasRooms plan) es
   rooms_are plan es rising are dealt =
       rooms_by plan es es (subst (λ ns. Dealt plan.settings.pipe plan.links (wires_by ns (lanes_in (map lines_of es)))) (sym are) dealt)

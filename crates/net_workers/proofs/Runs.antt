@@ -31,7 +31,7 @@ use Rattle.router_runs.specs.Runs.{Logged, logged_steps, new_logged}
 use Rattle.router_core.specs.Views.{plain_of}
 use Rattle.world_core.specs.World.{name_of, named}
 use Rattle.worker_loop.specs.declared.chore.Chore.{Chore}
-use Rattle.worker_loop.specs.declared.journal.Entry.{Entry}
+use Rattle.worker_loop.specs.declared.journal.WorkerEvent.{WorkerEvent}
 use Rattle.worker_loop.specs.Acts.{Act, passed, journal_of, entry_of}
 use Rattle.offer_board.specs.Boards.{collected_in}
 use Rattle.worker_loop.specs.Laws.{ActsAreJournals, IsJournalTo, StampsRise, WhatFollowsIsCalled}
@@ -53,10 +53,10 @@ use Rattle.net_workers.proofs.Blocks.{Block, IsFit, acts_of, acts_by, routers_of
 named_router : (u : ℕ) (e : RouterEvent) → router_of (name_of u e) ≡ u
 named_router u e = grind arith
 
-abbrev stamp_of : Entry → ℕ
+abbrev stamp_of : WorkerEvent → ℕ
 stamp_of e = e.stamp
 
-abbrev line_router : Entry → ℕ
+abbrev line_router : WorkerEvent → ℕ
 line_router e = router_of e.event
 
 same_line : (a : Act) → line_router (entry_of a) ≡ a.event.router

@@ -3,28 +3,28 @@ use Rattle.std.specs.Prelude.{ℕ, zero, suc, ◌≡◌, ◌≢◌, ◌==◌, co
 use Rattle.ranked_policy.specs.Plans.{Plan, numbers}
 use Rattle.ranked_policy.specs.declared.network.Link.{Link}
 use Rattle.ruled_pipe.specs.Ends.{TableId}
-use Rattle.net_workers.specs.declared.ends.Lane.{Lane}
-use Rattle.net_workers.specs.declared.ends.Ends.{Ends}
-use Rattle.net_workers.specs.declared.record.Way.{Way}
+use Rattle.net_workers.specs.declared.worker_pipes.PipePair.{PipePair}
+use Rattle.net_workers.specs.declared.worker_pipes.WorkerPipes.{WorkerPipes}
+use Rattle.net_workers.specs.declared.record.ClosedPipe.{ClosedPipe}
 use Rattle.net_workers.specs.Lanes.{Wire, wire_of, put_of, taken_of}
 use Rattle.net_workers.specs.Ways.{way_has}
 
--- ---- lanes by router
+-- ---- pairs by router
 
-abbrev pub lanes_in : List Ends → List (List Lane)
-lanes_in ends = map (λ e. e.lanes.items) ends
+abbrev pub lanes_in : List WorkerPipes → List (List PipePair)
+lanes_in ends = map (λ e. e.pairs.items) ends
 
--- the lanes of a router, those of each standing where its number does
-abbrev pub lanes_by : List ℕ → List (List Lane) → ℕ → List Lane
+-- the pairs of a router, those of each standing where its number does
+abbrev pub lanes_by : List ℕ → List (List PipePair) → ℕ → List PipePair
 lanes_by [] ls u = []
 lanes_by (n ∷ ns) [] u = []
 lanes_by (n ∷ ns) (l ∷ ls) u = cond (n == u) l (lanes_by ns ls u)
 
--- one lane more, at this place
-abbrev pub with_lane : List (List Lane) → ℕ → Lane → List (List Lane)
-with_lane [] i lane = []
-with_lane (l ∷ ls) zero lane = (l ++ lane ∷ []) ∷ ls
-with_lane (l ∷ ls) (suc i) lane = l ∷ with_lane ls i lane
+-- one pair more, at this place
+abbrev pub with_lane : List (List PipePair) → ℕ → PipePair → List (List PipePair)
+with_lane [] i pair = []
+with_lane (l ∷ ls) zero pair = (l ++ pair ∷ []) ∷ ls
+with_lane (l ∷ ls) (suc i) pair = l ∷ with_lane ls i pair
 
 -- the number stands first at that place
 abbrev pub IsFirst : List ℕ → ℕ → ℕ → Type 0
@@ -47,26 +47,27 @@ Dealt room [] wires = (u : ℕ) → wires u ≡ []
 Dealt room (link ∷ links) wires =
     (before : ℕ → List Wire) × (there : TableId) × (back : TableId) × Dealt room links before × ((u : ℕ) → wires u ≡ before u ++ wires_on room link there back u)
 
-abbrev pub wires_by : List ℕ → List (List Lane) → ℕ → List Wire
+abbrev pub wires_by : List ℕ → List (List PipePair) → ℕ → List Wire
 wires_by ns ls u = map wire_of (lanes_by ns ls u)
 
 -- these links of a network are dealt out to its workers
-abbrev pub AreDealt : Plan → List Link → List Ends → Type 0
+abbrev pub AreDealt : Plan → List Link → List WorkerPipes → Type 0
 AreDealt net links ends = Dealt net.settings.pipe links (wires_by (numbers net.routers) (lanes_in ends))
 
 -- ---- one more link
 
--- each router of a link, at these places, has one lane more: the ends of two pipes over which nothing passed
-pub record IsJoined (room : ℕ) (link : Link) (one other : ℕ) (old new : List (List Lane)) : Type 0 where
-  pub here : Lane
-  pub there : Lane
-  pub lanes : new ≡ with_lane (with_lane old one here) other there
+-- each router of a link, at these places, has one pair more: the ends of two pipes over which nothing passed
+pub record IsJoined (room : ℕ) (link : Link) (one other : ℕ) (old new : List (List PipePair)) : Type 0 where
+  pub here : PipePair
+  pub there : PipePair
+  pub pairs : new ≡ with_lane (with_lane old one here) other there
   pub to_other : wire_of here ≡ record { peer = link.other; out = here.out.pipe; room = room; into = there.out.pipe }
   pub to_one : wire_of there ≡ record { peer = link.one; out = there.out.pipe; room = room; into = here.out.pipe }
 
 -- ---- closed pipes
 
--- the ways between routers have what the lanes of each router had
-abbrev pub HavePassed : (ℕ → List Lane) → List Way → Type 0
-HavePassed lanes ways =
-    (u v : ℕ) → (put_of (lanes u) v ≡ way_has (λ w. w.tail.put) [] ways u v) × (taken_of (lanes v) u ≡ way_has (λ w. w.tail.taken) [] ways u v)
+-- the ways between routers have what the pairs of each router had
+abbrev pub HavePassed : (ℕ → List PipePair) → List ClosedPipe → Type 0
+HavePassed pairs ways =
+    (u v : ℕ) → (put_of (pairs u) v ≡ way_has (λ w. w.tail.put) [] ways u v) × (taken_of (pairs v) u
+    ≡ way_has (λ w. w.tail.taken) [] ways u v)

@@ -4,7 +4,7 @@ use Rattle.std.specs.Ordering.{nat_cmp}
 use Rattle.std.specs.List.Sorted.{IsNonDecreasingBy, IsStableByKey}
 use Rattle.world_core.specs.declared.schedule.Event.{Event}
 use Rattle.world_core.specs.declared.schedule.Event.TheVariants as event
-use Rattle.worker_loop.specs.declared.journal.Entry.{Entry}
+use Rattle.worker_loop.specs.declared.journal.WorkerEvent.{WorkerEvent}
 use Rattle.net_workers.specs.declared.record.Worked.{Worked}
 
 -- the router of an event
@@ -19,11 +19,11 @@ router_of (event.Advertise u) = u
 router_of (event.Offer u) = u
 
 -- the events of journals, one journal after another
-abbrev pub all_events : {G : Type 0} → List (Worked G) → List Entry
+abbrev pub all_events : {G : Type 0} → List (Worked G) → List WorkerEvent
 all_events [] = []
 all_events (w ∷ ws) = w.journal.events.items ++ all_events ws
 
 -- sorted by stamp; events of one stamp as they stood
-pub record IsSorted (all gathered : List Entry) : Type 0 where
+pub record IsSorted (all gathered : List WorkerEvent) : Type 0 where
   pub rising : IsNonDecreasingBy (λ e. e.stamp) gathered
   pub stable : IsStableByKey (λ e. e.stamp) nat_cmp all gathered

@@ -6,7 +6,7 @@ use Rattle.snap_marker.specs.Recordings.{MadeOffer}
 use Rattle.snap_collector.specs.Collector.{CollectorView, AreMembers, made_for, with_offers}
 use Rattle.run_model.specs.Stamps.{Collected, Pairwise, offers_on}
 use Rattle.worker_loop.specs.declared.worker.WorkerFault.TheVariants as worker
-use Rattle.worker_loop.specs.declared.journal.Entry.{Entry}
+use Rattle.worker_loop.specs.declared.journal.WorkerEvent.{WorkerEvent}
 use Rattle.net_workers.specs.declared.record.RunFault.{RunFault}
 use Rattle.net_workers.specs.declared.record.RunFault.TheVariants as fault
 use Rattle.net_workers.specs.declared.record.TheConstants.{MOST_TURNS}
@@ -26,28 +26,30 @@ use Rattle.worker_loop.specs.Ending.{EndsFor}
 use Rattle.worker_loop.specs.Whole.{IsWhole, IsLaterWorker, seen_of}
 use Rattle.offer_board.specs.declared.board.Made.{Made}
 use Rattle.offer_board.specs.Boards.{collected_in}
-use Rattle.net_workers.specs.declared.ends.Ends.{Ends}
-use Rattle.net_workers.specs.declared.place.Place.{Place}
+use Rattle.net_workers.specs.declared.worker_pipes.WorkerPipes.{WorkerPipes}
+use Rattle.net_workers.specs.declared.board_seat.BoardSeat.{BoardSeat}
 use Rattle.net_workers.specs.declared.record.Worked.{Worked}
-use Rattle.net_workers.specs.declared.running.Ended.{Ended}
+use Rattle.net_workers.specs.declared.running.Finished.{Finished}
 use Rattle.net_workers.specs.Lanes.{put_of, taken_of, room_of, wires_of, AreNew}
 
-abbrev pub seen : {G : Type 0} → Worker Ends Place G → Seen
-seen w = seen_of (λ e. put_of e.lanes.items) (λ e. taken_of e.lanes.items) (λ e. room_of e.lanes.items) (λ d. collected_in d.made.items) w
+abbrev pub seen : {G : Type 0} → Worker WorkerPipes BoardSeat G → Seen
+seen w = seen_of (λ e. put_of e.pairs.items) (λ e. taken_of e.pairs.items) (λ e. room_of e.pairs.items)
+    (λ d. collected_in d.made.items) w
 
 -- a worker that did nothing yet
-pub record IsFresh {G : Type 0} (given : G → List Chore) (plan : Plan) (w : Worker Ends Place G) : Type 0 where
+pub record IsFresh {G : Type 0} (given : G → List Chore) (plan : Plan)
+    (w : Worker WorkerPipes BoardSeat G) : Type 0 where
   pub net : w.router.net ≡ plan
   pub router : plain_of w.router ≡ new_stamped plan
   pub peers : w.peers.items ≡ peers plan w.router.number
-  pub lanes : AreNew w.lines
+  pub pairs : AreNew w.lines
   pub made : w.desk.made.items ≡ []
   pub chores : w.journal.chores.items ≡ []
   pub events : w.journal.events.items ≡ []
   pub gate : given w.gate ≡ []
 
 -- from v to w a worker did what its gate said, and no more
-pub record Ran {G : Type 0} (given : G → List Chore) (turns : ℕ) (v w : Worker Ends Place G) : Type 0 where
+pub record Ran {G : Type 0} (given : G → List Chore) (turns : ℕ) (v w : Worker WorkerPipes BoardSeat G) : Type 0 where
   pub chores : w.journal.chores.items ≡ given w.gate
   pub whole : IsWhole turns (given w.gate)
   pub follows : Did (λ g. Follows g v.router.number v.peers.items (given w.gate)) v.router.net (seen v) (seen w)
@@ -96,7 +98,7 @@ pub record AreLimits (plan : Plan) (turns gates : ℕ) : Type 0 where
 -- ---- the record of a run
 
 -- what a record hands back of a worker
-abbrev pub worked_of : {G : Type 0} → Ended G → Worked G
+abbrev pub worked_of : {G : Type 0} → Finished G → Worked G
 worked_of e = record {
   router = e.worker.router;
   journal = record { chores = e.worker.journal.chores; events = e.worker.journal.events; offers = e.worker.desk.made };
@@ -104,7 +106,7 @@ worked_of e = record {
 }
 
 -- the ends of pipes that a worker held
-abbrev pub lines_of : {G : Type 0} → Ended G → Ends
+abbrev pub lines_of : {G : Type 0} → Finished G → WorkerPipes
 lines_of e = e.worker.lines
 
 -- why a worker that ended in the middle leaves no record
@@ -118,16 +120,16 @@ or_else None other = other
 or_else (Some why) other = Some why
 
 -- the fault of the first that has one
-abbrev pub first_fault : {G : Type 0} → List (Ended G) → Option RunFault
+abbrev pub first_fault : {G : Type 0} → List (Finished G) → Option RunFault
 first_fault [] = None
 first_fault (e ∷ es) = or_else (fault_of e.worker.router.number e.fault) (first_fault es)
 
 -- why a worker ended before its last chore
-abbrev pub Ceased : {G : Type 0} → (G → List Chore) → ℕ → Worker Ends Place G → WorkerFault → Type 0
-Ceased given turns w why = EndsFor (λ e. taken_of e.lanes.items) turns (given w.gate) w why
+abbrev pub Ceased : {G : Type 0} → (G → List Chore) → ℕ → Worker WorkerPipes BoardSeat G → WorkerFault → Type 0
+Ceased given turns w why = EndsFor (λ e. taken_of e.pairs.items) turns (given w.gate) w why
 
 -- the offers of a list that a router made are those of its journal
-abbrev pub OffersOf : {G : Type 0} → List Made → Ended G → Type 0
+abbrev pub OffersOf : {G : Type 0} → List Made → Finished G → Type 0
 OffersOf board e = filter (λ o. o.router == e.worker.router.number) (collected_in board) ≡ collected_in e.worker.desk.made.items
 
 -- the collector has all offers made, by their numbers; router by router they are those of the journals, at rising
@@ -140,7 +142,8 @@ pub record Collects {G : Type 0} (plan : Plan) (workers : List (Worked G)) (c : 
   pub made : made_for c ≡ with_offers (λ s. []) (offers_on offers)
 
 -- every router of the network worked, and the events are gathered
-pub record IsRecord {G : Type 0} (given : G → List Chore) (plan : Plan) (turns : ℕ) (p : Passed) (workers : List (Worked G)) (c : CollectorView) (gathered : List Entry) : Type 0 where
+pub record IsRecord {G : Type 0} (given : G → List Chore) (plan : Plan) (turns : ℕ) (p : Passed) (workers : List
+    (Worked G)) (c : CollectorView) (gathered : List WorkerEvent) : Type 0 where
   pub routers : map (λ w. w.router.number) workers ≡ numbers plan.routers
   pub nobody : (u v : ℕ) → (IsRouter plan.routers u → ⊥) → (p.put u v ≡ []) × (p.taken u v ≡ [])
   pub worked : AllByRecursion (HasWorked given plan turns p) workers
@@ -148,14 +151,14 @@ pub record IsRecord {G : Type 0} (given : G → List Chore) (plan : Plan) (turns
   pub collects : Collects plan workers c
   pub members : AreMembers plan c.members
 
--- what the lanes of the workers have at the end
-abbrev pub put_by : {G : Type 0} → List (Ended G) → ℕ → ℕ → List Item
+-- what the pairs of the workers have at the end
+abbrev pub put_by : {G : Type 0} → List (Finished G) → ℕ → ℕ → List Item
 put_by [] u v = []
-put_by (e ∷ es) u v = cond (e.worker.router.number == u) (put_of e.worker.lines.lanes.items v) (put_by es u v)
+put_by (e ∷ es) u v = cond (e.worker.router.number == u) (put_of e.worker.lines.pairs.items v) (put_by es u v)
 
-abbrev pub taken_by : {G : Type 0} → List (Ended G) → ℕ → ℕ → List Item
+abbrev pub taken_by : {G : Type 0} → List (Finished G) → ℕ → ℕ → List Item
 taken_by [] u v = []
-taken_by (e ∷ es) u v = cond (e.worker.router.number == u) (taken_of e.worker.lines.lanes.items v) (taken_by es u v)
+taken_by (e ∷ es) u v = cond (e.worker.router.number == u) (taken_of e.worker.lines.pairs.items v) (taken_by es u v)
 
-abbrev pub passed_by : {G : Type 0} → List (Ended G) → Passed
+abbrev pub passed_by : {G : Type 0} → List (Finished G) → Passed
 passed_by es = record { put = put_by es; taken = taken_by es }

@@ -18,7 +18,7 @@ use Rattle.world_core.specs.Verdicts.{judged}
 use Rattle.world_core.specs.World.{named}
 use Rattle.world_core.specs.Replays.{IsCalledRun}
 use Rattle.worker_loop.specs.declared.chore.Chore.{Chore}
-use Rattle.worker_loop.specs.declared.journal.Entry.{Entry}
+use Rattle.worker_loop.specs.declared.journal.WorkerEvent.{WorkerEvent}
 use Rattle.worker_loop.specs.Laws.{IsOrdered}
 use Rattle.net_workers.specs.declared.record.Worked.{Worked}
 use Rattle.net_workers.specs.Ran.{Passed, IsRecord}
@@ -35,7 +35,8 @@ chores_of (w ∷ ws) u = cond (w.router.number == u) w.journal.chores.items (cho
 -- the gathered events are a run of the network. Its last state has the routers, the items that were put and taken, and
 -- the offers that were made to the collector. Each event is what its router's call answers, and is a command only if
 -- one of the router's chores is that command
-pub record IsRunOfThreads {G : Type 0} (g : Setting) (p : Passed) (workers : List (Worked G)) (gathered : List Entry) : Type 0 where
+pub record IsRunOfThreads {G : Type 0} (g : Setting) (p : Passed) (workers : List (Worked G))
+    (gathered : List WorkerEvent) : Type 0 where
   pub order : RunOrder
   pub state : RunState
   pub run : IsRunTo g order state
@@ -49,14 +50,15 @@ pub record IsRunOfThreads {G : Type 0} (g : Setting) (p : Passed) (workers : Lis
 -- every record is one of a run
 abbrev pub RecordsAreRuns : {G : Type 0} → (G → List Chore) → Type 0
 RecordsAreRuns {G} given =
-    (plan : Plan) (turns : ℕ) (p : Passed) (workers : List (Worked G)) (c : CollectorView) (gathered : List Entry)
+    (plan : Plan) (turns : ℕ) (p : Passed) (workers : List (Worked G)) (c : CollectorView) (gathered : List WorkerEvent)
     → (record_of : IsRecord given plan turns p workers c gathered) → InTurn p → (g : Setting) → g.net ≡ plan → IsSetting g
     → (run : IsRunOfThreads g p workers gathered) × (run.state.offered ≡ offers_on record_of.collects.offers)
 
 -- the promises of runs hold of a record, and a run of the same events passes through the cut of each snapshot whose
 -- parts all routers made; the collector has exactly the offers of that run, and its verdict on a snapshot is how the
 -- snapshot comes out in that run
-pub record KeepsPromises {G : Type 0} (g : Setting) (p : Passed) (workers : List (Worked G)) (c : CollectorView) (gathered : List Entry) : Type 0 where
+pub record KeepsPromises {G : Type 0} (g : Setting) (p : Passed) (workers : List (Worked G)) (c : CollectorView)
+    (gathered : List WorkerEvent) : Type 0 where
   pub run : IsRunOfThreads g p workers gathered
   pub in_order : (u v e : ℕ) → linked g.net u v ≡ true → PassesInOrder g run.state u v e × IsPrefix ((side_of run.state v u).acted e) ((side_of run.state u v).sent e)
   pub after_close : ActsOnNothingAfterCloses g run.order run.state
@@ -68,10 +70,10 @@ pub record KeepsPromises {G : Type 0} (g : Setting) (p : Passed) (workers : List
 
 abbrev pub RecordsKeepTheirPromises : {G : Type 0} → (G → List Chore) → Type 0
 RecordsKeepTheirPromises {G} given =
-    (plan : Plan) (turns : ℕ) (p : Passed) (workers : List (Worked G)) (c : CollectorView) (gathered : List Entry)
+    (plan : Plan) (turns : ℕ) (p : Passed) (workers : List (Worked G)) (c : CollectorView) (gathered : List WorkerEvent)
     → IsRecord given plan turns p workers c gathered → InTurn p → (g : Setting) → g.net ≡ plan → IsSetting g
     → KeepsPromises g p workers c gathered
 
 -- the promises hold in every setting of the network that chooses by rank
-abbrev pub RunKeepsPromises : {G : Type 0} → Plan → Passed → List (Worked G) → CollectorView → List Entry → Type 0
+abbrev pub RunKeepsPromises : {G : Type 0} → Plan → Passed → List (Worked G) → CollectorView → List WorkerEvent → Type 0
 RunKeepsPromises plan p workers c gathered = (g : Setting) → g.net ≡ plan → IsSetting g → KeepsPromises g p workers c gathered

@@ -8,8 +8,8 @@ ghost use Rattle.net_workers.specs.Lanes.{AreNew};
 ghost use Rattle.net_workers.specs.Dealt.{lanes_in, lanes_by, with_lane, AreDealt, IsJoined, HavePassed};
 ghost use Rattle.net_workers.specs.Ways.{AreWays};
 
-use crate::ends::{Ends, Lane};
-use crate::record::Way;
+use crate::record::ClosedPipe;
+use crate::worker_pipes::{PipePair, WorkerPipes};
 use outbox::Item;
 use ranked_policy::{Asn, Link, Network};
 use ruled_pipe::{PutEnd, TakeEnd, close, with_ends};
@@ -29,40 +29,40 @@ fn pipe(alloc: Global, room: usize) -> Result<(PutEnd<Item>, TakeEnd<Item>), All
     }
 }
 
-// Empty lanes for each of so many workers.
-fn no_lanes(alloc: Global, workers: usize) -> Result<Vec<Ends>, AllocError>
+// Empty pairs for each of so many workers.
+fn no_pairs(alloc: Global, workers: usize) -> Result<Vec<WorkerPipes>, AllocError>
     ensures many { IfOk result (λ ends. length ends.items ≡ workers) }
     ensures new { IfOk result (λ ends. AllByRecursion AreNew ends.items) }
-    ensures none { IfOk result (λ ends. AllByRecursion (λ e. e.lanes.items ≡ []) ends.items) }
+    ensures none { IfOk result (λ ends. AllByRecursion (λ e. e.pairs.items ≡ []) ends.items) }
 {
     let mut ends = Vec::new(alloc);
     for made in 0..workers {
         let _ = made;
-        ends.push(Ends {
-            lanes: Vec::new(alloc),
+        ends.push(WorkerPipes {
+            pairs: Vec::new(alloc),
         })?;
     }
     Ok(ends)
 }
 
-// Adds a lane to those of a worker.
-fn add(ends: &mut Vec<Ends>, at: usize, lane: Lane) -> Result<(), AllocError>
+// Adds a pair to those of a worker.
+fn add(ends: &mut Vec<WorkerPipes>, at: usize, pair: PipePair) -> Result<(), AllocError>
     requires below { at < length ends.old.items }
-    requires put { lane.out.items ≡ [] }
-    requires taken { lane.into.items ≡ [] }
+    requires put { pair.out.items ≡ [] }
+    requires taken { pair.into.items ≡ [] }
     requires new { AllByRecursion AreNew ends.old.items }
     ensures many { length ends.new.items ≡ length ends.old.items }
     ensures new { AllByRecursion AreNew ends.new.items }
-    ensures lanes { IfOk result (λ _. lanes_in ends.new.items ≡ with_lane (lanes_in ends.old.items) at lane) }
+    ensures pairs { IfOk result (λ _. lanes_in ends.new.items ≡ with_lane (lanes_in ends.old.items) at pair) }
 {
-    ends[at].lanes.push(lane)?;
+    ends[at].pairs.push(pair)?;
     Ok(())
 }
 
 // Joins the routers of a link, which stand at these places, by two pipes, one in each direction.
 fn join(
     alloc: Global,
-    ends: &mut Vec<Ends>,
+    ends: &mut Vec<WorkerPipes>,
     room: usize,
     link: Link,
     one: usize,
@@ -78,12 +78,12 @@ fn join(
 {
     let (there, from_one) = pipe(alloc, room)?;
     let (back, from_other) = pipe(alloc, room)?;
-    let here = Lane {
+    let here = PipePair {
         peer: link.other,
         out: there,
         into: from_other,
     };
-    let beyond = Lane {
+    let beyond = PipePair {
         peer: link.one,
         out: back,
         into: from_one,
@@ -106,15 +106,15 @@ fn place_of(network: &Network, number: Asn) -> usize
     place
 }
 
-/// The lanes of each worker of a network, by rising router.
-pub(crate) fn deal(alloc: Global, network: &Network) -> Result<Vec<Ends>, AllocError>
+/// The pairs of each worker of a network, by rising router.
+pub(crate) fn deal(alloc: Global, network: &Network) -> Result<Vec<WorkerPipes>, AllocError>
     ensures many { IfOk result (λ ends. length ends.items ≡ length network.now.routers) }
     ensures new { IfOk result (λ ends. AllByRecursion AreNew ends.items) }
     ensures dealt { IfOk result (λ ends. AreDealt network.now network.now.links ends.items) }
 {
     let room = network.settings().pipe;
     let links = network.links();
-    let mut ends = no_lanes(alloc, network.routers().len())?;
+    let mut ends = no_pairs(alloc, network.routers().len())?;
     let mut left = links.len();
     'links: while left > 0 {
         left -= 1;
@@ -125,18 +125,18 @@ pub(crate) fn deal(alloc: Global, network: &Network) -> Result<Vec<Ends>, AllocE
     Ok(ends)
 }
 
-// Removes the last lane of a worker, and answers it.
-fn last_lane(ends: &mut Vec<Ends>, at: usize) -> Option<Lane>
+// Removes the last pair of a worker, and answers it.
+fn last_pair(ends: &mut Vec<WorkerPipes>, at: usize) -> Option<PipePair>
     requires below { at < length ends.old.items }
     ensures many { length ends.new.items ≡ length ends.old.items }
-    ensures some { IfSome result (λ lane. lanes_in ends.old.items ≡ with_lane (lanes_in ends.new.items) at lane) }
+    ensures some { IfSome result (λ pair. lanes_in ends.old.items ≡ with_lane (lanes_in ends.new.items) at pair) }
     ensures none { IfNone result (slice_index_or (lanes_in ends.old.items) at [] ≡ []) }
 {
-    ends[at].lanes.pop()
+    ends[at].pairs.pop()
 }
 
 // Closes the pipe from one router to another.
-fn way<R: Wait>(rt: &R, from: Asn, to: Asn, put: PutEnd<Item>, take: TakeEnd<Item>) -> Way
+fn closed<R: Wait>(rt: &R, from: Asn, to: Asn, put: PutEnd<Item>, take: TakeEnd<Item>) -> ClosedPipe
     requires one_pipe { put.pipe ≡ take.pipe }
     ensures from { result.from ≡ from }
     ensures to { result.to ≡ to }
@@ -144,7 +144,7 @@ fn way<R: Wait>(rt: &R, from: Asn, to: Asn, put: PutEnd<Item>, take: TakeEnd<Ite
     ensures left { put.items ≡ take.items ++ left result.tail }
     ensures held { length (left result.tail) ≤ put.room }
 {
-    Way {
+    ClosedPipe {
         from,
         to,
         tail: close(rt, put, take),
@@ -157,8 +157,8 @@ pub(crate) fn close_all<R: Wait>(
     rt: &R,
     alloc: Global,
     network: &Network,
-    ends: Vec<Ends>,
-) -> Result<Vec<Way>, AllocError>
+    ends: Vec<WorkerPipes>,
+) -> Result<Vec<ClosedPipe>, AllocError>
     requires many { length ends.items ≡ length network.now.routers }
     requires dealt { AreDealt network.now network.now.links ends.items }
     ensures ways { IfOk result (λ ways. AreWays network.now ways.items) }
@@ -169,14 +169,14 @@ pub(crate) fn close_all<R: Wait>(
     let mut ways = Vec::new(alloc);
     for link in network.links() {
         let (one, other) = (place_of(network, link.one), place_of(network, link.other));
-        let Some(there) = last_lane(&mut ends, other) else {
+        let Some(there) = last_pair(&mut ends, other) else {
             unreachable!()
         };
-        let Some(here) = last_lane(&mut ends, one) else {
+        let Some(here) = last_pair(&mut ends, one) else {
             unreachable!()
         };
-        ways.push(way(rt, link.one, link.other, here.out, there.into))?;
-        ways.push(way(rt, link.other, link.one, there.out, here.into))?;
+        ways.push(closed(rt, link.one, link.other, here.out, there.into))?;
+        ways.push(closed(rt, link.other, link.one, there.out, here.into))?;
     }
     Ok(ways)
 }

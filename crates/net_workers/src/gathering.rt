@@ -5,10 +5,10 @@ ghost use Rattle.net_workers.specs.Gathered.{all_events, IsSorted};
 
 use crate::record::Worked;
 use std::alloc::{AllocError, Global};
-use worker_loop::Entry;
+use worker_loop::WorkerEvent;
 
 // The events of journals, one journal after another.
-fn all_events<G>(alloc: Global, workers: &[Worked<'_, G>]) -> Result<Vec<Entry>, AllocError>
+fn all_events<G>(alloc: Global, workers: &[Worked<'_, G>]) -> Result<Vec<WorkerEvent>, AllocError>
     ensures { IfOk result (λ all. all.items ≡ all_events workers.now) }
 {
     let mut all = Vec::new(alloc);
@@ -19,10 +19,13 @@ fn all_events<G>(alloc: Global, workers: &[Worked<'_, G>]) -> Result<Vec<Entry>,
 }
 
 /// The events of all journals, which stand by rising router, ordered by stamp, then by router.
-pub(crate) fn gather<G>(alloc: Global, workers: &[Worked<'_, G>]) -> Result<Vec<Entry>, AllocError>
+pub(crate) fn gather<G>(
+    alloc: Global,
+    workers: &[Worked<'_, G>],
+) -> Result<Vec<WorkerEvent>, AllocError>
     ensures { IfOk result (λ gathered. IsSorted (all_events workers.now) gathered.items) }
 {
     let mut all = all_events(alloc, workers)?;
-    all.sort_by_key(|entry: &Entry| entry.stamp)?;
+    all.sort_by_key(|entry: &WorkerEvent| entry.stamp)?;
     Ok(all)
 }

@@ -21,10 +21,10 @@ use world_core::laws::members_are_of_the_network;
 struct Lines;
 
 impl JournalLines for Lines {
-    ghost use Rattle.worker_loop.specs.declared.journal.Entry.{Entry};
+    ghost use Rattle.worker_loop.specs.declared.journal.WorkerEvent.{WorkerEvent};
     ghost use Rattle.net_workers.specs.Gathered.{router_of};
 
-    ghost Line = { Entry };
+    ghost Line = { WorkerEvent };
 
     ghost stamp = { λ e. e.stamp };
 
@@ -35,13 +35,13 @@ impl JournalLines for Lines {
 struct Events;
 
 impl WholeLines for Events {
-    ghost use Rattle.worker_loop.specs.declared.journal.Entry.{Entry};
+    ghost use Rattle.worker_loop.specs.declared.journal.WorkerEvent.{WorkerEvent};
     ghost use Rattle.worker_loop.specs.Acts.{Act, entry_of};
     ghost use Rattle.net_workers.specs.Gathered.{router_of};
 
     ghost Whole = { Act };
 
-    ghost Line = { Entry };
+    ghost Line = { WorkerEvent };
 
     ghost line = { entry_of };
 

@@ -7,21 +7,21 @@
 //! Left out: that a thread gets on, that two of them run at once, and when anything arrives.
 #![tactic(auto)]
 
+mod board_seat;
 mod dealing;
-mod ends;
 mod gathering;
 pub mod laws;
 mod net;
-mod place;
 mod record;
 mod running;
 mod sleepers;
+mod worker_pipes;
 
-pub use ends::{Ends, Lane};
+pub use board_seat::{Board, BoardSeat};
 pub use net::{record_of, run_net};
 pub use offer_board::Made;
-pub use place::{Board, Place};
-pub use record::{Journal, Limits, MOST_TURNS, Record, RunFault, Worked};
-pub use running::Ended;
+pub use record::{Limits, MOST_TURNS, Record, RunFault, Worked, WorkerRecord};
+pub use running::Finished;
 pub use sleepers::Sleepers;
-pub use worker_loop::{Between, Chore, Entry, Gate, ScriptGate};
+pub use worker_loop::{Between, Chore, Gate, ScriptGate, WorkerEvent};
+pub use worker_pipes::{PipePair, WorkerPipes};

@@ -12,13 +12,13 @@ ghost use Rattle.net_workers.specs.Ran.{first_fault, worked_of, lines_of, passed
 ghost use Rattle.net_workers.specs.Runs.{RunKeepsPromises};
 ghost use Rattle.net_workers.specs.Ways.{AreWays, passed_in};
 
+use crate::board_seat::Board;
 use crate::dealing::close_all;
-use crate::ends::Ends;
 use crate::gathering::gather;
 use crate::laws::records_are_runs;
-use crate::place::Board;
-use crate::record::{Journal, Limits, MOST_TURNS, Record, RunFault, Worked};
-use crate::running::{Ended, new_workers, run_all};
+use crate::record::{Limits, MOST_TURNS, Record, RunFault, Worked, WorkerRecord};
+use crate::running::{Finished, new_workers, run_all};
+use crate::worker_pipes::WorkerPipes;
 use offer_board::{BoardState, Made, made_by_same};
 use ranked_policy::Network;
 use snap_collector::Collector;
@@ -29,7 +29,7 @@ use worker_loop::laws::what_follows_is_done;
 use worker_loop::{Gate, WorkerFault};
 
 // The fault of the least router that has one.
-fn first_fault<G>(workers: &[Ended<'_, G>]) -> Option<RunFault>
+fn first_fault<G>(workers: &[Finished<'_, G>]) -> Option<RunFault>
     ensures first { result ≡ first_fault workers.now }
     ensures kind { IfSome result (λ why. why ≢ RunFault.BadLimits) }
 {
@@ -48,7 +48,7 @@ fn first_fault<G>(workers: &[Ended<'_, G>]) -> Option<RunFault>
 }
 
 // Whether the offers that the board has of each router are those that its worker made.
-fn agrees<G>(board: &BoardState, workers: &[Ended<'_, G>]) -> bool
+fn agrees<G>(board: &BoardState, workers: &[Finished<'_, G>]) -> bool
     ensures { result ≡ true → AllByRecursion (OffersOf board.now.offers) workers.now }
 {
     for ended in workers {
@@ -75,8 +75,8 @@ fn are_known(network: &Network, offers: &[Made]) -> bool
 // The work of the workers, and the ends of pipes that they held.
 fn parted<G: Drop>(
     alloc: Global,
-    workers: Vec<Ended<'_, G>>,
-) -> Result<(Vec<Worked<'_, G>>, Vec<Ends>), AllocError>
+    workers: Vec<Finished<'_, G>>,
+) -> Result<(Vec<Worked<'_, G>>, Vec<WorkerPipes>), AllocError>
     ensures worked { IfOk result (λ parts. parts.0.items ≡ map worked_of workers.entry.items) }
     ensures ends { IfOk result (λ parts. parts.1.items ≡ map lines_of workers.entry.items) }
 {
@@ -87,7 +87,7 @@ fn parted<G: Drop>(
         ends.push(worker.lines)?;
         done.push(Worked {
             router: worker.router,
-            journal: Journal {
+            journal: WorkerRecord {
                 chores: worker.journal.chores,
                 events: worker.journal.events,
                 offers: worker.desk.made,
@@ -126,7 +126,7 @@ fn ended_workers<'a, R, G>(
     gates: Vec<G>,
     turns: u32,
     board: &Board,
-) -> Result<Vec<Ended<'a, G>>, AllocError>
+) -> Result<Vec<Finished<'a, G>>, AllocError>
 where
     R: Threads + Wait + Sync,
     G: Gate + Send + Drop,
@@ -151,7 +151,7 @@ pub fn record_of<'a, R, G>(
     alloc: Global,
     network: &'a Network,
     board: BoardState,
-    workers: Vec<Ended<'a, G>>,
+    workers: Vec<Finished<'a, G>>,
 ) -> Result<Record<'a, G>, RunFault>
 where
     R: Wait,

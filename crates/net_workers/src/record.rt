@@ -8,7 +8,7 @@ use ruled_pipe::Tail;
 use snap_collector::Collector;
 use std::alloc::AllocError;
 use thiserror::Error;
-use worker_loop::{Chore, Entry};
+use worker_loop::{Chore, WorkerEvent};
 
 /// The most chores that a worker may be given.
 pub const MOST_TURNS: u32 = 1_000_000;
@@ -53,11 +53,11 @@ impl From<AllocError> for RunFault {
 
 /// A worker's chores, events and offers, in its order.
 #[derive(Debug, Drop)]
-pub struct Journal {
+pub struct WorkerRecord {
     /// The chores that its gate gave.
     pub chores: Vec<Chore>,
     /// The events that it did, with their stamps.
-    pub events: Vec<Entry>,
+    pub events: Vec<WorkerEvent>,
     /// The offers that it made, with their stamps.
     pub offers: Vec<Made>,
 }
@@ -68,7 +68,7 @@ pub struct Worked<'a, G> {
     /// The router, as it is in the end.
     pub router: Router<'a>,
     /// The chores, events and offers of its worker.
-    pub journal: Journal,
+    pub journal: WorkerRecord,
     /// Its gate.
     pub gate: G,
 }
@@ -76,7 +76,7 @@ pub struct Worked<'a, G> {
 /// The pipe from one router to another, closed. Contracts see all items that were put into it and all
 /// that were taken out of it.
 #[derive(Drop)]
-pub struct Way {
+pub struct ClosedPipe {
     /// The router that put.
     pub from: Asn,
     /// The router that took.
@@ -92,9 +92,9 @@ pub struct Record<'a, G> {
     pub workers: Vec<Worked<'a, G>>,
     /// The pipes: for each link, in the order of the network, the one that leads there and the one
     /// that leads back.
-    pub ways: Vec<Way>,
+    pub ways: Vec<ClosedPipe>,
     /// The collector.
     pub collector: Collector,
     /// The events of all journals, by stamp, then by router.
-    pub gathered: Vec<Entry>,
+    pub gathered: Vec<WorkerEvent>,
 }

@@ -9,23 +9,23 @@ ghost use Rattle.net_workers.specs.Lanes.{AreNew, wires_of};
 ghost use Rattle.net_workers.specs.Dealt.{AreDealt};
 ghost use Rattle.net_workers.specs.Ran.{IsFresh, Ran, Ceased, lines_of};
 
+use crate::board_seat::{Board, BoardSeat};
 use crate::dealing::deal;
-use crate::ends::Ends;
-use crate::place::{Board, Place};
+use crate::worker_pipes::WorkerPipes;
 use ranked_policy::{Asn, Network};
 use router_core::is_peer;
 use std::alloc::{AllocError, Global};
 use std::sync::Wait;
 use std::thread;
 use std::thread::Threads;
-use worker_loop::{Desk, Gate, Lines, Worker, WorkerFault};
+use worker_loop::{Desk, Gate, Pipes, Worker, WorkerFault};
 use world_core::new_router;
 
 /// A worker that has ended, and its fault if it ended before its last chore.
 #[derive(Drop)]
-pub struct Ended<'a, G> {
+pub struct Finished<'a, G> {
     /// The worker.
-    pub worker: Worker<'a, Ends, Place, G>,
+    pub worker: Worker<'a, WorkerPipes, BoardSeat, G>,
     /// Its fault.
     pub fault: Option<WorkerFault>,
 }
@@ -48,11 +48,11 @@ fn new_worker<'a, G: Gate + Drop>(
     alloc: Global,
     network: &'a Network,
     number: Asn,
-    lines: Ends,
+    lines: WorkerPipes,
     gate: G,
-) -> Result<Ended<'a, G>, AllocError>
+) -> Result<Finished<'a, G>, AllocError>
     requires router { IsRouter network.now.routers number }
-    requires lanes { AreNew lines }
+    requires pairs { AreNew lines }
     requires gate { G.given gate ≡ [] }
     ensures fresh { IfOk result (λ ended. IsFresh G.given network.now ended.worker) }
     ensures number { IfOk result (λ ended. ended.worker.router.number ≡ number) }
@@ -65,13 +65,13 @@ fn new_worker<'a, G: Gate + Drop>(
         router,
         peers,
         lines,
-        desk: Place {
+        desk: BoardSeat {
             made: Vec::new(alloc),
         },
         gate,
         journal: worker_loop::Journal::new(alloc),
     };
-    Ok(Ended {
+    Ok(Finished {
         worker,
         fault: None,
     })
@@ -82,7 +82,7 @@ pub(crate) fn new_workers<'a, G: Gate + Drop>(
     alloc: Global,
     network: &'a Network,
     gates: Vec<G>,
-) -> Result<Vec<Ended<'a, G>>, AllocError>
+) -> Result<Vec<Finished<'a, G>>, AllocError>
     requires many { length gates.items ≡ length network.now.routers }
     requires fresh { AllByRecursion (λ gate. G.given gate ≡ []) gates.items }
     ensures numbers { IfOk result (λ made. map (λ e. e.worker.router.number) made.items ≡ numbers network.now.routers) }
@@ -104,7 +104,7 @@ pub(crate) fn new_workers<'a, G: Gate + Drop>(
 }
 
 // Runs one worker.
-fn run_one<R: Wait, G: Gate>(rt: &R, board: &Board, turns: u32, ended: &mut Ended<'_, G>)
+fn run_one<R: Wait, G: Gate>(rt: &R, board: &Board, turns: u32, ended: &mut Finished<'_, G>)
     requires gate { G.given ended.old.worker.gate ≡ [] }
     requires chores { ended.old.worker.journal.chores.items ≡ [] }
     ensures ran { IfNone ended.new.fault (Ran G.given turns ended.old.worker ended.new.worker) }
@@ -118,7 +118,12 @@ fn run_one<R: Wait, G: Gate>(rt: &R, board: &Board, turns: u32, ended: &mut Ende
 
 /// Runs each worker in a thread of its own, and returns once all have ended. A worker that ends
 /// without a fault did what its gate said, and one with a fault ended for it.
-pub(crate) fn run_all<'a, R, G>(rt: &R, board: &Board, turns: u32, workers: &mut Vec<Ended<'a, G>>)
+pub(crate) fn run_all<'a, R, G>(
+    rt: &R,
+    board: &Board,
+    turns: u32,
+    workers: &mut Vec<Finished<'a, G>>,
+)
 where
     R: Threads + Wait + Sync,
     G: Gate + Send,
@@ -146,6 +151,6 @@ where
         rt,
         workers,
         threads,
-        &|_, ended: &mut Ended<G>| { run_one(rt, board, turns, ended) },
+        &|_, ended: &mut Finished<G>| { run_one(rt, board, turns, ended) },
     );
 }

@@ -19,7 +19,7 @@ use std::sync::atomic::{AtomicBool, AtomicU64, Ordering};
 use std::thread;
 use std::thread::Parker;
 use std::time::Duration;
-use worker_loop::{Between, Entry};
+use worker_loop::{Between, WorkerEvent};
 use world_core::Event;
 
 // The states of a worker: it has work; it found none, and looks once more; it sleeps; it goes on to what is due.
@@ -125,7 +125,7 @@ impl Sleepers {
     }
 
     /// Whether workers still sleep if they find no work.
-    pub fn are_resting(&self) -> bool {
+    pub fn is_at_rest(&self) -> bool {
         self.mode.load(Ordering::SeqCst) == RESTING
     }
 
@@ -235,7 +235,7 @@ impl Sleepers {
 
     // Whether a worker that fell asleep sleeps on.
     fn is_asleep(&self, bed: &Bed) -> bool {
-        bed.state.load(Ordering::SeqCst) == ASLEEP && self.are_resting()
+        bed.state.load(Ordering::SeqCst) == ASLEEP && self.is_at_rest()
     }
 
     // Naps until another worker has done something, and answers whether this one sleeps on. If no worker does anything,
@@ -335,7 +335,7 @@ impl Sleepers {
 
     /// Takes note that a worker has ended: it wakes the others, and is awake no longer.
     pub fn leave(&self) {
-        if !self.are_resting() {
+        if !self.is_at_rest() {
             return;
         }
         for bed in self.beds.as_slice() {

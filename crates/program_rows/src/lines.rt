@@ -5,7 +5,7 @@ use thiserror::Error;
 
 /// A line of a file.
 #[derive(Clone, Copy)]
-pub struct Line<'a> {
+pub struct RowLine<'a> {
     /// Its number, from 1.
     pub number: usize,
     /// Its text without its end.
@@ -23,7 +23,7 @@ pub enum RowError {
     Memory(#[from(alloc)] AllocError),
 }
 
-impl Line<'_> {
+impl RowLine<'_> {
     /// That the line is no row where it stands.
     pub fn is_no_row(&self) -> RowError {
         RowError::NoRow { line: self.number }
@@ -36,17 +36,17 @@ impl Line<'_> {
 }
 
 /// The lines of a text.
-pub fn lines_of(alloc: Global, text: &str) -> Result<Vec<Line<'_>>, AllocError> {
+pub fn lines_of(alloc: Global, text: &str) -> Result<Vec<RowLine<'_>>, AllocError> {
     let mut lines = Vec::new(alloc);
     for (before, text) in text.lines().enumerate() {
         let number = before.saturating_add(1);
-        lines.push(Line { number, text })?;
+        lines.push(RowLine { number, text })?;
     }
     Ok(lines)
 }
 
 /// The lines without those at their end that say nothing.
-pub fn trimmed<'a, 'b>(lines: &'b [Line<'a>]) -> &'b [Line<'a>] {
+pub fn trimmed<'a, 'b>(lines: &'b [RowLine<'a>]) -> &'b [RowLine<'a>] {
     let last = lines.iter().rposition(|line| !line.says_nothing());
     let count = last.map_or(0, |last| last.saturating_add(1));
     let (said, _) = lines.split_at(count.min(lines.len()));
@@ -93,7 +93,7 @@ fn push_octet(out: &mut Vec<u8>, open: Open, octet: u8) -> Result<Option<Open>, 
 }
 
 /// Appends what a line spells, with its end where no backslash stands for it.
-pub fn push_line(out: &mut Vec<u8>, line: &Line<'_>) -> Result<(), RowError> {
+pub fn push_line(out: &mut Vec<u8>, line: &RowLine<'_>) -> Result<(), RowError> {
     let mut open = Open::Nothing;
     for octet in line.text.bytes() {
         match push_octet(out, open, octet)? {
@@ -109,7 +109,7 @@ pub fn push_line(out: &mut Vec<u8>, line: &Line<'_>) -> Result<(), RowError> {
 }
 
 /// Appends what lines spell.
-pub fn push_lines(out: &mut Vec<u8>, lines: &[Line<'_>]) -> Result<(), RowError> {
+pub fn push_lines(out: &mut Vec<u8>, lines: &[RowLine<'_>]) -> Result<(), RowError> {
     for line in lines {
         push_line(out, line)?;
     }

@@ -1,6 +1,6 @@
 //! The cases of a file of rows.
 
-use crate::lines::{Line, RowError, lines_of, push_line, push_lines, trimmed};
+use crate::lines::{RowError, RowLine, lines_of, push_line, push_lines, trimmed};
 use std::alloc::Global;
 
 /// What may be written, and the status.
@@ -30,21 +30,21 @@ pub struct Case<'a> {
 }
 
 // Whether a case begins with this line, or what stands in front of inputs.
-fn is_head(line: &Line<'_>) -> bool {
+fn is_head(line: &RowLine<'_>) -> bool {
     line.text.starts_with("== ") || line.text.starts_with("++ ")
 }
 
-fn is_status(line: &Line<'_>) -> bool {
+fn is_status(line: &RowLine<'_>) -> bool {
     line.text.starts_with("-- ")
 }
 
 // Whether a line is said on the standard error.
-fn is_said(line: &Line<'_>) -> bool {
+fn is_said(line: &RowLine<'_>) -> bool {
     line.text.starts_with("!!")
 }
 
 // What lines that are said spell, each without its mark; none where there is no line.
-fn read_said(alloc: Global, lines: &[Line<'_>]) -> Result<Option<Vec<u8>>, RowError> {
+fn read_said(alloc: Global, lines: &[RowLine<'_>]) -> Result<Option<Vec<u8>>, RowError> {
     if lines.is_empty() {
         return Ok(None);
     }
@@ -53,7 +53,7 @@ fn read_said(alloc: Global, lines: &[Line<'_>]) -> Result<Option<Vec<u8>>, RowEr
         match line.text.strip_prefix("!! ") {
             Some(text) => push_line(
                 &mut said,
-                &Line {
+                &RowLine {
                     number: line.number,
                     text,
                 },
@@ -66,7 +66,11 @@ fn read_said(alloc: Global, lines: &[Line<'_>]) -> Result<Option<Vec<u8>>, RowEr
 }
 
 // What stands behind a status.
-fn read_answer(alloc: Global, status: &Line<'_>, lines: &[Line<'_>]) -> Result<Answer, RowError> {
+fn read_answer(
+    alloc: Global,
+    status: &RowLine<'_>,
+    lines: &[RowLine<'_>],
+) -> Result<Answer, RowError> {
     let number = status.text.strip_prefix("-- ").unwrap_or("").parse::<u8>();
     let Ok(number) = number else {
         return Err(status.is_no_row());
@@ -92,7 +96,7 @@ fn read_answer(alloc: Global, status: &Line<'_>, lines: &[Line<'_>]) -> Result<A
 }
 
 // The words of a line of words.
-fn read_words<'a>(alloc: Global, line: &Line<'a>) -> Result<Vec<&'a str>, RowError> {
+fn read_words<'a>(alloc: Global, line: &RowLine<'a>) -> Result<Vec<&'a str>, RowError> {
     match line.text.strip_prefix("$") {
         Some(words) => Ok(words.split_whitespace().collect(alloc)?),
         None => Err(line.is_no_row()),
@@ -100,7 +104,7 @@ fn read_words<'a>(alloc: Global, line: &Line<'a>) -> Result<Vec<&'a str>, RowErr
 }
 
 // What the lines of a `++` spell.
-fn read_front(alloc: Global, lines: &[Line<'_>]) -> Result<Vec<u8>, RowError> {
+fn read_front(alloc: Global, lines: &[RowLine<'_>]) -> Result<Vec<u8>, RowError> {
     let mut front = Vec::new(alloc);
     push_lines(&mut front, trimmed(lines))?;
     Ok(front)
@@ -110,8 +114,8 @@ fn read_front(alloc: Global, lines: &[Line<'_>]) -> Result<Vec<u8>, RowError> {
 fn read_case<'a>(
     alloc: Global,
     front: &[u8],
-    head: &Line<'a>,
-    lines: &[Line<'a>],
+    head: &RowLine<'a>,
+    lines: &[RowLine<'a>],
 ) -> Result<Case<'a>, RowError> {
     let [words, lines @ ..] = lines else {
         return Err(head.is_no_row());
@@ -137,7 +141,7 @@ fn read_case<'a>(
 }
 
 // Refuses the first line that says something, of those in front of all cases.
-fn expect_nothing(lines: &[Line<'_>]) -> Result<(), RowError> {
+fn expect_nothing(lines: &[RowLine<'_>]) -> Result<(), RowError> {
     match lines.iter().find(|line| !line.says_nothing()) {
         Some(line) => Err(line.is_no_row()),
         None => Ok(()),

@@ -6,25 +6,25 @@ use Rattle.std.proofs.lemmas.List.{get_or-map, length-map}
 use Rattle.std.proofs.lemmas.List.Elements.{All-append, All-cons, All-weaker}
 use Rattle.prefix_lanes.specs.Bits.{PrefixView, Covers}
 use Rattle.prefix_lanes.specs.Covering.{IsLongest}
-use Rattle.ranked_policy.specs.declared.network.Rule.{Rule}
+use Rattle.ranked_policy.specs.declared.network.RankRule.{RankRule}
 use Rattle.ranked_policy.specs.Policies.{IsRuleFor, NoRuleFor}
 
-abbrev pub prefixes : List Rule → List PrefixView
+abbrev pub prefixes : List RankRule → List PrefixView
 prefixes rules = map (λ rule. rule.prefix) rules
 
 -- what holds of the prefix of each rule
-of_rules : (P : PrefixView → Type 0) (rules : List Rule) → All P (prefixes rules) → All (λ rule. P rule.prefix) rules
+of_rules : (P : PrefixView → Type 0) (rules : List RankRule) → All P (prefixes rules) → All (λ rule. P rule.prefix) rules
 of_rules P rules all k d l = subst P (get_or-map (λ rule. rule.prefix) rules k d d.prefix l) (all k d.prefix (omega (arith, l, length-map rules (λ rule. rule.prefix))))
 
-pub no_rule : (rules : List Rule) (q : PrefixView) → IsLongest (prefixes rules) q None → NoRuleFor rules q
+pub no_rule : (rules : List RankRule) (q : PrefixView) → IsLongest (prefixes rules) q None → NoRuleFor rules q
 no_rule rules q none = of_rules (λ p. Covers p q → ⊥) rules none
 
-pub within : (rules : List Rule) (q : PrefixView) (at : ℕ) → IsLongest (prefixes rules) q (Some at) → at < length rules
+pub within : (rules : List RankRule) (q : PrefixView) (at : ℕ) → IsLongest (prefixes rules) q (Some at) → at < length rules
 within rules q at h =
     let s = h.1 in
     omega (arith, s.place, ap length s.whole, length-append s.before (h.0 ∷ s.behind), length-map rules (λ rule. rule.prefix))
 
-pub rule_at : (rules : List Rule) (q : PrefixView) (at : ℕ) (rule : Rule) → rule ≡ get_or rules at rule → IsLongest (prefixes rules) q (Some at) → IsRuleFor rules q rule
+pub rule_at : (rules : List RankRule) (q : PrefixView) (at : ℕ) (rule : RankRule) → rule ≡ get_or rules at rule → IsLongest (prefixes rules) q (Some at) → IsRuleFor rules q rule
 rule_at rules q at rule read h =
     let p = h.0 in
     let s = h.1 in

@@ -3,18 +3,18 @@ use Rattle.std.proofs.Common.{◌≡◌, ℕ, zero, suc, ◌<◌, List, [], ◌�
 use Rattle.std.specs.List.{AllPairs}
 use Rattle.std.proofs.lemmas.Bool.{cases_order}
 use Rattle.std.proofs.lemmas.List.{length-map, get_or-map}
-use Rattle.ranked_policy.specs.declared.network.Router.{Router}
-use Rattle.ranked_policy.specs.declared.network.Rule.{Rule}
+use Rattle.ranked_policy.specs.declared.network.NetRouter.{NetRouter}
+use Rattle.ranked_policy.specs.declared.network.RankRule.{RankRule}
 use Rattle.ranked_policy.specs.declared.network.Origin.{Origin}
 use Rattle.ranked_policy.specs.Plans.{Plan, AreRules, AreOrigins, IsNetwork, numbers}
 use Rattle.ranked_policy.specs.Policies.{Table, IsTable, IsTableOf}
 
 -- routers stand by rising number, so one stands at each number
-same_place : (routers : List Router) (i j : ℕ) (d : Router) → AllPairs (λ u v. u < v) (numbers routers) → i < j → j < length routers → (get_or routers i d).asn ≡ (get_or routers j d).asn → ⊥
+same_place : (routers : List NetRouter) (i j : ℕ) (d : NetRouter) → AllPairs (λ u v. u < v) (numbers routers) → i < j → j < length routers → (get_or routers i d).asn ≡ (get_or routers j d).asn → ⊥
 same_place routers i j d rising lt below e =
-    let size : length (numbers routers) ≡ length routers = length-map routers (λ (r : Router). r.asn) in
-    let first : get_or (numbers routers) i 0 ≡ (get_or routers i d).asn = get_or-map (λ (r : Router). r.asn) routers i d 0 (omega (arith, lt, below)) in
-    let next : get_or (numbers routers) j 0 ≡ (get_or routers j d).asn = get_or-map (λ (r : Router). r.asn) routers j d 0 below in
+    let size : length (numbers routers) ≡ length routers = length-map routers (λ (r : NetRouter). r.asn) in
+    let first : get_or (numbers routers) i 0 ≡ (get_or routers i d).asn = get_or-map (λ (r : NetRouter). r.asn) routers i d 0 (omega (arith, lt, below)) in
+    let next : get_or (numbers routers) j 0 ≡ (get_or routers j d).asn = get_or-map (λ (r : NetRouter). r.asn) routers j d 0 below in
     let up : get_or (numbers routers) i 0 < get_or (numbers routers) j 0 = rising i j 0 lt (omega (arith, size, below)) in
     omega (arith, up, first, next, e)
 
@@ -24,15 +24,15 @@ within [] i d e lt = absurd (omega (arith, lt))
 within (x ∷ xs) zero d e lt = refl
 within (x ∷ xs) (suc i) d e lt = within xs i d e (omega (arith, lt))
 
-same_router : (routers : List Router) (i j : ℕ) (r s : Router) → AllPairs (λ u v. u < v) (numbers routers) → i < length routers → j < length routers → get_or routers i r ≡ r → get_or routers j s ≡ s
+same_router : (routers : List NetRouter) (i j : ℕ) (r s : NetRouter) → AllPairs (λ u v. u < v) (numbers routers) → i < length routers → j < length routers → get_or routers i r ≡ r → get_or routers j s ≡ s
     → r.asn ≡ s.asn → r ≡ s
 same_router routers i j r s rising lt below is also e =
     let mine : get_or routers i s ≡ r = within routers i s r lt ∙ is in
     elim (cases_order i j) [
       | inl same ↦ sym mine ∙ ap (λ (k : ℕ). get_or routers k s) same ∙ also
       | inr differ ↦ elim differ [
-        | inl less ↦ absurd (same_place routers i j s rising less below (ap (λ (q : Router). q.asn) mine ∙ e ∙ sym (ap (λ (q : Router). q.asn) also)))
-        | inr more ↦ absurd (same_place routers j i s rising more lt (ap (λ (q : Router). q.asn) also ∙ sym e ∙ sym (ap (λ (q : Router). q.asn) mine)))
+        | inl less ↦ absurd (same_place routers i j s rising less below (ap (λ (q : NetRouter). q.asn) mine ∙ e ∙ sym (ap (λ (q : NetRouter). q.asn) also)))
+        | inr more ↦ absurd (same_place routers j i s rising more lt (ap (λ (q : NetRouter). q.asn) also ∙ sym e ∙ sym (ap (λ (q : NetRouter). q.asn) mine)))
       ]
     ]
 
@@ -46,16 +46,16 @@ one_table net u t s is a b =
     let x = a.2 in
     let y = b.2 in
     let same : x.1 ≡ y.1 = same_router net.routers x.0 y.0 x.1 y.1 is.plan.rising x.2 y.2 x.3 y.3 (x.4.0 ∙ sym y.4.0) in
-    let rules : t.rules ≡ s.rules = sym x.4.1 ∙ ap (λ (r : Router). r.rules) same ∙ y.4.1 in
+    let rules : t.rules ≡ s.rules = sym x.4.1 ∙ ap (λ (r : NetRouter). r.rules) same ∙ y.4.1 in
     table_is t s router rules origins
 
 pub table_stands : (net : Plan) (u : ℕ) (t : Table) → IsNetwork net → IsTableOf net u t → IsTable t
 table_stands net u t is a =
     let x = a.2 in
     let here = is.plan.rules x.0 x.1 x.2 in
-    let rules = subst (λ (r : Router). AreRules (numbers net.routers) r.asn r.rules) x.3 here in
+    let rules = subst (λ (r : NetRouter). AreRules (numbers net.routers) r.asn r.rules) x.3 here in
     record {
       all = numbers net.routers;
-      rules = subst (λ (rs : List Rule). AreRules (numbers net.routers) t.router rs) x.4.1 (subst (λ (n : ℕ). AreRules (numbers net.routers) n x.1.rules) (x.4.0 ∙ sym a.0) rules);
+      rules = subst (λ (rs : List RankRule). AreRules (numbers net.routers) t.router rs) x.4.1 (subst (λ (n : ℕ). AreRules (numbers net.routers) n x.1.rules) (x.4.0 ∙ sym a.0) rules);
       origins = subst (AreOrigins (numbers net.routers)) (sym a.1) is.plan.origins;
     }

@@ -12,7 +12,7 @@ use Rattle.std.proofs.lemmas.Option.{slice_get-get_or, slice_get-map}
 use Rattle.std.proofs.lemmas.Bool.{cases_order, cases_lt}
 use Rattle.std.proofs.lemmas.List.{get_or-take, get_or-drop, get_or_default, length-drop, length-take-le}
 use Rattle.prefix_lanes.specs.Bits.{PrefixView}
-use Rattle.ranked_policy.specs.declared.network.Router.{Router}
+use Rattle.ranked_policy.specs.declared.network.NetRouter.{NetRouter}
 use Rattle.ranked_policy.specs.declared.network.Origin.{Origin}
 use Rattle.ranked_policy.specs.Orders.{compared}
 use Rattle.ranked_policy.specs.Plans.{numbers, IsBefore, IsNamed, IsOrigin, IsRouter}
@@ -73,7 +73,7 @@ index_higher x y u l = at (nat_cmp x u) (nat_cmp y u) (ranked x u (nat_cmp x u) 
 by_number : (x u : ℕ) (o : Ordering) → nat_cmp x u ≡ o → MatchOrdering o (x < u) (x ≡ u) (u < x)
 by_number x u o is = ranked x u o (sym is)
 
-pub router_place : (routers : List Router) (u : ℕ) (r : Result ℕ ℕ) → AllPairs (λ a b. a < b) (numbers routers) → IsSearchInRange r (length routers) → IsBinarySearchResult (λ x. nat_cmp x.asn u) routers r
+pub router_place : (routers : List NetRouter) (u : ℕ) (r : Result ℕ ℕ) → AllPairs (λ a b. a < b) (numbers routers) → IsSearchInRange r (length routers) → IsBinarySearchResult (λ x. nat_cmp x.asn u) routers r
     → Place (λ x. x.asn < u) (λ x. x.asn ≡ u) (λ x. u < x.asn) routers r
 router_place routers u r rising bound is =
     place (λ x. nat_cmp x.asn u) (λ a b. a.asn < b.asn) (λ a b l. index_higher a.asn b.asn u l) (λ x. x.asn < u) (λ x. x.asn ≡ u) (λ x. u < x.asn)
@@ -133,10 +133,10 @@ module _ {X : Type 0} (P : X → Type 0) where
         (subst P (sym (get_or-drop i xs k a.1 ∙ (ap (λ j. get_or xs j a.1) place ∙ a.3))) a.4)
   ]
 
-pub router_found : (routers : List Router) (u i : ℕ) → i < length routers → HoldsAt (λ r. r.asn ≡ u) routers i → IsRouter routers u
+pub router_found : (routers : List NetRouter) (u i : ℕ) → i < length routers → HoldsAt (λ r. r.asn ≡ u) routers i → IsRouter routers u
 router_found routers u i l is = map_contains (λ r. r.asn) routers u (any_at (λ r. r.asn ≡ u) routers i (record { asn = 0; id = 0; rules = [] }) l is)
 
-pub router_missing : (routers : List Router) (u i : ℕ) → i ≤ length routers → All (λ r. r.asn < u) (take i routers) → All (λ r. u < r.asn) (drop i routers) → IsRouter routers u → ⊥
+pub router_missing : (routers : List NetRouter) (u i : ℕ) → i ≤ length routers → All (λ r. r.asn < u) (take i routers) → All (λ r. u < r.asn) (drop i routers) → IsRouter routers u → ⊥
 router_missing routers u i l before behind is =
     none_of_both (λ r. r.asn ≡ u) routers i l (λ k d m e. (let b = before k d m in omega (arith, b, e))) (λ k d m e. (let b = behind k d m in omega (arith, b, e))) (contains_map (λ r. r.asn) routers u is)
 

@@ -8,10 +8,10 @@ use Rattle.std.proofs.lemmas.List.Quantifiers.{all_pairs_push}
 use Rattle.std.proofs.lemmas.List.Sums.{sum_by-append}
 use Rattle.std.proofs.lemmas.Bool.{or_cases, eqb-true}
 use Rattle.prefix_lanes.specs.Bits.{PrefixView, IsCanonical}
-use Rattle.ranked_policy.specs.declared.network.Router.{Router}
+use Rattle.ranked_policy.specs.declared.network.NetRouter.{NetRouter}
 use Rattle.ranked_policy.specs.declared.network.Link.{Link}
 use Rattle.ranked_policy.specs.declared.network.Origin.{Origin}
-use Rattle.ranked_policy.specs.declared.network.Rule.{Rule}
+use Rattle.ranked_policy.specs.declared.network.RankRule.{RankRule}
 use Rattle.ranked_policy.specs.Paths.{IsSimple, BeginsWith}
 use Rattle.ranked_policy.specs.Plans.{Plan, numbers, identifiers, Joins, touches, IsRouter, IsBefore, AreLinks, AreOrigins, AreRanked, AreRules, IsPlan}
 use Rattle.bgp_values.specs.Ranges.{IsAsn, IsUnicast}
@@ -90,7 +90,7 @@ more_ranked all more u paths on h = record {
   few = h.few;
 }
 
-more_rules : (all more : List ℕ) (u : ℕ) (rules : List Rule) → ((v : ℕ) → Contains all v → Contains more v) → AreRules all u rules → AreRules more u rules
+more_rules : (all more : List ℕ) (u : ℕ) (rules : List RankRule) → ((v : ℕ) → Contains all v → Contains more v) → AreRules all u rules → AreRules more u rules
 more_rules all more u rules on h = record {
   few = h.few;
   canonical = h.canonical;
@@ -107,13 +107,13 @@ no_rules all u = record {
 }
 
 -- a router more
-pub plan_router : (net : Plan) (before behind : List Router) (u id : ℕ) → net.routers ≡ before ++ behind → IsPlan net → All (λ r. (r.asn ≢ u) × (r.id ≢ id)) net.routers → length net.routers < 64 → IsAsn net.settings.width u × IsUnicast id
+pub plan_router : (net : Plan) (before behind : List NetRouter) (u id : ℕ) → net.routers ≡ before ++ behind → IsPlan net → All (λ r. (r.asn ≢ u) × (r.id ≢ id)) net.routers → length net.routers < 64 → IsAsn net.settings.width u × IsUnicast id
     → All (λ r. r.asn < u) before → All (λ r. u < r.asn) behind
     → IsPlan (record net { routers = before ++ (record { asn = u; id = id; rules = [] }) ∷ behind })
 plan_router net before behind u id was h new room good below above =
-    let r : Router = record { asn = u; id = id; rules = [] } in
-    let old : List Router = before ++ behind in
-    let now : List Router = before ++ r ∷ behind in
+    let r : NetRouter = record { asn = u; id = id; rules = [] } in
+    let old : List NetRouter = before ++ behind in
+    let now : List NetRouter = before ++ r ∷ behind in
     let old_numbers : numbers old ≡ numbers before ++ numbers behind = map-append (λ r. r.asn) before behind in
     let new_numbers : numbers now ≡ numbers before ++ u ∷ numbers behind = map-append (λ r. r.asn) before (r ∷ behind) in
     let old_ids : identifiers old ≡ identifiers before ++ identifiers behind = map-append (λ r. r.id) before behind in
@@ -151,9 +151,9 @@ pub map_change : {X Y : Type 0} (f : X → Y) (xs ys : List X) (x y : X) → f x
 map_change f xs ys x y e = map-append f xs (x ∷ ys) ∙ ap (λ z. map f xs ++ z ∷ map f ys) e ∙ sym (map-append f xs (y ∷ ys))
 
 -- a rule more
-rules_push : (all : List ℕ) (u : ℕ) (rules : List Rule) (q : PrefixView) (paths : List (List ℕ)) → AreRules all u rules → IsCanonical q → All (λ rule. rule.prefix ≢ q) rules → length rules < 64
+rules_push : (all : List ℕ) (u : ℕ) (rules : List RankRule) (q : PrefixView) (paths : List (List ℕ)) → AreRules all u rules → IsCanonical q → All (λ rule. rule.prefix ≢ q) rules → length rules < 64
     → AreRanked all u paths → AreRules all u (rules ++ (record { prefix = q; paths = paths }) ∷ [])
-rules_push all u rules q paths h canonical new room ranked = let rule : Rule = record { prefix = q; paths = paths } in record {
+rules_push all u rules q paths h canonical new room ranked = let rule : RankRule = record { prefix = q; paths = paths } in record {
   few = omega (arith, room, length-append rules (rule ∷ []));
   canonical = All-push (λ rule. IsCanonical rule.prefix) rules rule h.canonical canonical;
   distinct = all_pairs_push (λ rule later. rule.prefix ≢ later.prefix) rules rule h.distinct new;
@@ -171,12 +171,12 @@ ranked_from all u paths simple short distinct known few = record {
   few = few;
 }
 
-pub plan_rule : (net : Plan) (before behind : List Router) (r : Router) (q : PrefixView) (paths : List (List ℕ)) → net.routers ≡ before ++ r ∷ behind → IsPlan net → IsCanonical q
+pub plan_rule : (net : Plan) (before behind : List NetRouter) (r : NetRouter) (q : PrefixView) (paths : List (List ℕ)) → net.routers ≡ before ++ r ∷ behind → IsPlan net → IsCanonical q
     → All (λ rule. rule.prefix ≢ q) r.rules → length r.rules < 64 → AreRanked (numbers net.routers) r.asn paths
     → IsPlan (record net { routers = before ++ (record r { rules = r.rules ++ (record { prefix = q; paths = paths }) ∷ [] }) ∷ behind })
 plan_rule net before behind r q paths was h canonical new room ranked =
-    let r' : Router = record r { rules = r.rules ++ (record { prefix = q; paths = paths }) ∷ [] } in
-    let now : List Router = before ++ r' ∷ behind in
+    let r' : NetRouter = record r { rules = r.rules ++ (record { prefix = q; paths = paths }) ∷ [] } in
+    let now : List NetRouter = before ++ r' ∷ behind in
     let same : numbers net.routers ≡ numbers now = ap numbers was ∙ map_change (λ r. r.asn) before behind r r' refl in
     let ids : identifiers net.routers ≡ identifiers now = ap identifiers was ∙ map_change (λ r. r.id) before behind r r' refl in
     record {
@@ -228,7 +228,7 @@ changed xs i x y l read = record {
   second = set_split xs i y l;
 }
 
-pub plan_rule_at : (net : Plan) (i : ℕ) (r : Router) (q : PrefixView) (paths : List (List ℕ)) → i < length net.routers → r ≡ get_or net.routers i r → IsPlan net → IsCanonical q
+pub plan_rule_at : (net : Plan) (i : ℕ) (r : NetRouter) (q : PrefixView) (paths : List (List ℕ)) → i < length net.routers → r ≡ get_or net.routers i r → IsPlan net → IsCanonical q
     → All (λ rule. rule.prefix ≢ q) r.rules → length r.rules < 64 → AreRanked (numbers net.routers) r.asn paths
     → IsPlan (record net { routers = set net.routers i (record r { rules = r.rules ++ (record { prefix = q; paths = paths }) ∷ [] }) })
 plan_rule_at net i r q paths l read h canonical new room ranked =

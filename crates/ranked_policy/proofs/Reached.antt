@@ -7,14 +7,14 @@ use Rattle.std.proofs.lemmas.List.{take-append-drop, get_or-map, length-map, get
 use Rattle.std.proofs.lemmas.List.Elements.{All-append, All-weaker}
 use Rattle.std.proofs.lemmas.Bool.{cases_order, cases_eq, cases_lt, false≢true, true≢false}
 use mathlib.Core.Bool.{beq}
-use Rattle.ranked_policy.specs.declared.network.Router.{Router}
+use Rattle.ranked_policy.specs.declared.network.NetRouter.{NetRouter}
 use Rattle.ranked_policy.specs.declared.network.Link.{Link}
 use Rattle.ranked_policy.specs.Plans.{numbers, Joins, Linked, Walks, Joined, IsRouter, IsConnected}
 use Rattle.ranked_policy.specs.Reaching.{StandsAt, IsMarked, LeadsTo, IsClosed}
 use Rattle.ranked_policy.proofs.Loops.{contains_map}
 
 -- a number that all before it are below and all behind it above is none of them
-pub absent : (routers : List Router) (i u : ℕ) → All (λ r. r.asn < u) (take i routers) → All (λ r. u < r.asn) (drop i routers) → IsRouter routers u → ⊥
+pub absent : (routers : List NetRouter) (i u : ℕ) → All (λ r. r.asn < u) (take i routers) → All (λ r. u < r.asn) (drop i routers) → IsRouter routers u → ⊥
 absent routers i u below above known =
     let differ : All (λ r. r.asn ≢ u) (take i routers ++ drop i routers) =
     All-append (λ r. r.asn ≢ u) (take i routers) (drop i routers) (All-weaker (λ r. r.asn < u) (λ r. r.asn ≢ u) (λ r l e. omega (arith, l, e)) (take i routers) below)
@@ -23,14 +23,14 @@ absent routers i u below above known =
     let at = contains_map (λ r. r.asn) routers u known in
     none at.0 at.1 at.2 (ap (λ r. r.asn) at.3 ∙ at.4)
 
-pub some_router : Router
+pub some_router : NetRouter
 some_router = record { asn = 0; id = 0; rules = [] }
 
-pub stands : (routers : List Router) (i u : ℕ) → i < length routers → HoldsAt (λ r. r.asn ≡ u) routers i → StandsAt routers i u
+pub stands : (routers : List NetRouter) (i u : ℕ) → i < length routers → HoldsAt (λ r. r.asn ≡ u) routers i → StandsAt routers i u
 stands routers i u l at = (l, get_or-map (λ r. r.asn) routers i some_router 0 l ∙ at some_router)
 
 -- rising numbers stand at one place each
-pub one_place : (routers : List Router) (i j u : ℕ) → AllPairs (λ v w. v < w) (numbers routers) → StandsAt routers i u → StandsAt routers j u → i ≡ j
+pub one_place : (routers : List NetRouter) (i j u : ℕ) → AllPairs (λ v w. v < w) (numbers routers) → StandsAt routers i u → StandsAt routers j u → i ≡ j
 one_place routers i j u rising at_i at_j = elim (cases_order i j) [
   | inl e ↦ e
   | inr differ ↦ elim differ [
@@ -66,12 +66,12 @@ pub joined_step : (links : List Link) (u v w : ℕ) → Joined links u v → Lin
 joined_step links u v w h l = joined_on links u v w h (w ∷ [], (l, refl))
 
 -- both ends of a link between places
-pub link_leads : (routers : List Router) (links : List Link) (index i j : ℕ) (link : Link) → index < length links → link ≡ get_or links index link → StandsAt routers i link.one → StandsAt routers j link.other
+pub link_leads : (routers : List NetRouter) (links : List Link) (index i j : ℕ) (link : Link) → index < length links → link ≡ get_or links index link → StandsAt routers i link.one → StandsAt routers j link.other
     → Linked links (slice_index (numbers routers) i) (slice_index (numbers routers) j)
 link_leads routers links index i j link l read at_one at_other = (index, link, l, sym read, inl (sym at_one.1, sym at_other.1))
 
 -- from a marked router, closed links lead to marked ones alone
-closed_link : (routers : List Router) (links : List Link) (reached : List Bool) (i u v : ℕ) → AllPairs (λ v w. v < w) (numbers routers) → IsClosed routers links reached → StandsAt routers i u → IsMarked reached i
+closed_link : (routers : List NetRouter) (links : List Link) (reached : List Bool) (i u v : ℕ) → AllPairs (λ v w. v < w) (numbers routers) → IsClosed routers links reached → StandsAt routers i u → IsMarked reached i
     → Linked links u v → (j : ℕ) × StandsAt routers j v × IsMarked reached j
 closed_link routers links reached i u v rising closed at marked h =
     let at_link = closed h.0 h.1 h.2 in
@@ -86,23 +86,23 @@ closed_link routers links reached i u v rising closed at marked h =
           (at_link.0, subst (StandsAt routers at_link.0) back.0 one, at_link.4 ∙ ap (λ k. get_or reached k false) (sym here) ∙ marked)
     ]
 
-closed_walk : (routers : List Router) (links : List Link) (reached : List Bool) (i u w : ℕ) (vs : List ℕ) → AllPairs (λ v w. v < w) (numbers routers) → IsClosed routers links reached → StandsAt routers i u → IsMarked reached i
+closed_walk : (routers : List NetRouter) (links : List Link) (reached : List Bool) (i u w : ℕ) (vs : List ℕ) → AllPairs (λ v w. v < w) (numbers routers) → IsClosed routers links reached → StandsAt routers i u → IsMarked reached i
     → Walks links u vs w → (j : ℕ) × StandsAt routers j w × IsMarked reached j
 closed_walk routers links reached i u w [] rising closed at marked h = (i, subst (StandsAt routers i) h at, marked)
 closed_walk routers links reached i u w (v ∷ vs) rising closed at marked h =
     let next = closed_link routers links reached i u v rising closed at marked h.0 in
     closed_walk routers links reached next.0 v w vs rising closed next.1 next.2 h.1
 
-place_in : (routers : List Router) (k : ℕ) → k < length routers → StandsAt routers k (slice_index (numbers routers) k)
+place_in : (routers : List NetRouter) (k : ℕ) → k < length routers → StandsAt routers k (slice_index (numbers routers) k)
 place_in routers k l = (l, refl)
 
-router_in : (routers : List Router) (k : ℕ) → k < length routers → IsRouter routers (slice_index (numbers routers) k)
+router_in : (routers : List NetRouter) (k : ℕ) → k < length routers → IsRouter routers (slice_index (numbers routers) k)
 router_in routers k l =
     let inside : k < length (numbers routers) = omega (arith, l, length-map routers (λ r. r.asn)) in
     (k, inside, get_or_default (numbers routers) k (slice_index (numbers routers) k) 0 inside)
 
 -- where links are closed and all are joined, all are marked
-pub all_marked : (routers : List Router) (links : List Link) (reached : List Bool) → AllPairs (λ v w. v < w) (numbers routers) → IsClosed routers links reached → IsMarked reached 0 → IsConnected routers links
+pub all_marked : (routers : List NetRouter) (links : List Link) (reached : List Bool) → AllPairs (λ v w. v < w) (numbers routers) → IsClosed routers links reached → IsMarked reached 0 → IsConnected routers links
     → (k : ℕ) → k < length routers → IsMarked reached k
 all_marked routers links reached rising closed first connected k l =
     let some : 0 < length routers = omega (arith, l) in
@@ -113,7 +113,7 @@ all_marked routers links reached rising closed first connected k l =
     subst (IsMarked reached) (one_place routers at.0 k u rising at.1 (place_in routers k l)) at.2
 
 -- where all are marked that are joined with the first, all are joined
-pub all_joined : (routers : List Router) (links : List Link) (reached : List Bool)
+pub all_joined : (routers : List NetRouter) (links : List Link) (reached : List Bool)
     → ((k : ℕ) → k < length routers → IsMarked reached k → Joined links (slice_index (numbers routers) 0) (slice_index (numbers routers) k))
     → ((k : ℕ) → k < length routers → IsMarked reached k) → IsConnected routers links
 all_joined routers links reached sound marked u v is_u is_v =
@@ -133,7 +133,7 @@ mark_stays reached place k l marked = elim (cases_eq k place) [
   | inr differ ↦ get_or-set_other reached place k true false differ ∙ marked
 ]
 
-pub mark_sound : (routers : List Router) (links : List Link) (reached : List Bool) (place : ℕ) → place < length reached
+pub mark_sound : (routers : List NetRouter) (links : List Link) (reached : List Bool) (place : ℕ) → place < length reached
     → ((k : ℕ) → k < length routers → IsMarked reached k → Joined links (slice_index (numbers routers) 0) (slice_index (numbers routers) k)) → LeadsTo routers links reached place
     → (k : ℕ) → k < length routers → IsMarked (set reached place true) k → Joined links (slice_index (numbers routers) 0) (slice_index (numbers routers) k)
 mark_sound routers links reached place l sound leads k inside marked = elim (cases_eq k place) [
@@ -145,14 +145,14 @@ mark_sound routers links reached place l sound leads k inside marked = elim (cas
 ]
 
 -- only the first is marked
-pub first_sound : (routers : List Router) (links : List Link) (reached : List Bool) → ((k : ℕ) → IsMarked reached k → k ≡ 0)
+pub first_sound : (routers : List NetRouter) (links : List Link) (reached : List Bool) → ((k : ℕ) → IsMarked reached k → k ≡ 0)
     → (k : ℕ) → k < length routers → IsMarked reached k → Joined links (slice_index (numbers routers) 0) (slice_index (numbers routers) k)
 first_sound routers links reached only k l marked = ([], ap (slice_index (numbers routers)) (sym (only k marked)))
 
 abbrev pub no_link : Link
 no_link = record { one = 0; other = 0 }
 
-abbrev pub BothMarked : List Router → List Bool → Link → Type 0
+abbrev pub BothMarked : List NetRouter → List Bool → Link → Type 0
 BothMarked routers reached link =
     (i j : ℕ) × StandsAt routers i link.one × StandsAt routers j link.other × (slice_index_or reached i false ≡ slice_index_or reached j false)
 

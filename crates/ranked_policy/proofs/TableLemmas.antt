@@ -9,7 +9,7 @@ use Rattle.std.proofs.lemmas.Bool.{cases_order}
 use Rattle.prefix_lanes.specs.Bits.{PrefixView, IsCanonical, Covers, bits}
 use Rattle.prefix_lanes.specs.Laws.{HasItsLength, SameBitsSamePrefix}
 use Rattle.ranked_policy.specs.declared.network.Origin.{Origin}
-use Rattle.ranked_policy.specs.declared.network.Rule.{Rule}
+use Rattle.ranked_policy.specs.declared.network.RankRule.{RankRule}
 use Rattle.ranked_policy.specs.Paths.{IsRoute}
 use Rattle.ranked_policy.specs.Orders.{ComesFirst, IsShorter}
 use Rattle.ranked_policy.specs.Laws.{comes_first_trans, comes_first_total, shorter_trans, shorter_total, shorter_first_is_an_order}
@@ -50,7 +50,7 @@ origin_iff all origins q (Some u) are any v = (
 front_of : (p q : PrefixView) (n : ℕ) → length (bits p) ≡ n → Covers p q → bits p ≡ take n (bits q)
 front_of p q n l covers = sym (take_at (bits p) covers.0 n l) ∙ ap (take n) covers.1
 
-pub one_rule : HasItsLength → SameBitsSamePrefix → (all : List ℕ) (u : ℕ) (rules : List Rule) → AreRules all u rules → (q : PrefixView) (rule other : Rule) → IsRuleFor rules q rule → IsRuleFor rules q other → rule ≡ other
+pub one_rule : HasItsLength → SameBitsSamePrefix → (all : List ℕ) (u : ℕ) (rules : List RankRule) → AreRules all u rules → (q : PrefixView) (rule other : RankRule) → IsRuleFor rules q rule → IsRuleFor rules q other → rule ≡ other
 one_rule has_length once all u rules are q rule other h g =
     let canonical : IsCanonical rule.prefix = All-contains (λ r. IsCanonical r.prefix) rules rule are.canonical h.listed in
     let canonical' : IsCanonical other.prefix = All-contains (λ r. IsCanonical r.prefix) rules other are.canonical g.listed in
@@ -61,7 +61,7 @@ one_rule has_length once all u rules are q rule other h g =
     front_of rule.prefix q rule.prefix.len (has_length rule.prefix canonical).0 h.covers ∙ sym (front_of other.prefix q rule.prefix.len ((has_length other.prefix canonical').0 ∙ lens) g.covers) in
     one_of (λ r. r.prefix) rules h.listed.0 g.listed.0 rule other are.distinct h.listed.1 g.listed.1 h.listed.2 g.listed.2 (once rule.prefix other.prefix canonical canonical' same_bits)
 
-rule_or_none : {A : Type 0} (rules : List Rule) (q : PrefixView) (rule : Rule) → IsRuleFor rules q rule → NoRuleFor rules q → A
+rule_or_none : {A : Type 0} (rules : List RankRule) (q : PrefixView) (rule : RankRule) → IsRuleFor rules q rule → NoRuleFor rules q → A
 rule_or_none rules q rule h none = absurd (All-contains (λ r. Covers r.prefix q → ⊥) rules rule none h.listed h.covers)
 
 -- the router originates the prefix
@@ -72,7 +72,7 @@ pub only_prefers : (t : Table) (q : PrefixView) (a b : List ℕ) → Originates 
 only_prefers t q a b is = (λ never. absurd never, λ h. absurd (h.0 is))
 
 -- a rule names the paths
-ranked_route : (t : Table) (holds : IsTable t) (q : PrefixView) (origin : Option ℕ) (rule : Rule) (path : List ℕ) → ((v : ℕ) → (origin ≡ Some v) ↔ Originates t q v) → IsRuleFor t.rules q rule
+ranked_route : (t : Table) (holds : IsTable t) (q : PrefixView) (origin : Option ℕ) (rule : RankRule) (path : List ℕ) → ((v : ℕ) → (origin ≡ Some v) ↔ Originates t q v) → IsRuleFor t.rules q rule
     → IsRankedPath rule.paths origin path → IsRoute t.router (Originates t q) path
 ranked_route t holds q origin rule path iff for p =
     let ranked : AreRanked holds.all t.router rule.paths = All-contains (λ r. AreRanked holds.all t.router r.paths) t.rules rule holds.rules.ranked for.listed in
@@ -83,27 +83,27 @@ ranked_route t holds q origin rule path iff for p =
       ends = (p.1.0, (iff p.1.0).0 p.1.1, p.1.2);
     }
 
-ranked_back : (t : Table) (holds : IsTable t) → HasItsLength → SameBitsSamePrefix → (q : PrefixView) (origin : Option ℕ) (rule : Rule) (path : List ℕ) → ((v : ℕ) → (origin ≡ Some v) ↔ Originates t q v) → IsRuleFor t.rules q rule
+ranked_back : (t : Table) (holds : IsTable t) → HasItsLength → SameBitsSamePrefix → (q : PrefixView) (origin : Option ℕ) (rule : RankRule) (path : List ℕ) → ((v : ℕ) → (origin ≡ Some v) ↔ Originates t q v) → IsRuleFor t.rules q rule
     → IsRoute t.router (Originates t q) path → IsListed t.rules q path → IsRankedPath rule.paths origin path
 ranked_back t holds has_length once q origin rule path iff for route (inl other) =
     let same : other.0 ≡ rule = one_rule has_length once holds.all t.router t.rules holds.rules q other.0 rule other.1 for in
     (subst (λ r. Contains r.paths path) same other.2, (route.ends.0, (iff route.ends.0).1 route.ends.1, route.ends.2))
 ranked_back t holds has_length once q origin rule path iff for route (inr none) = rule_or_none t.rules q rule for none
 
-pub ranked_permits : (t : Table) (holds : IsTable t) → HasItsLength → SameBitsSamePrefix → (q : PrefixView) (origin : Option ℕ) (rule : Rule) (path : List ℕ) → ((v : ℕ) → (origin ≡ Some v) ↔ Originates t q v)
+pub ranked_permits : (t : Table) (holds : IsTable t) → HasItsLength → SameBitsSamePrefix → (q : PrefixView) (origin : Option ℕ) (rule : RankRule) (path : List ℕ) → ((v : ℕ) → (origin ≡ Some v) ↔ Originates t q v)
     → (Originates t q t.router → ⊥) → IsRuleFor t.rules q rule → IsRankedPath rule.paths origin path ↔ IsPermitted t q path
 ranked_permits t holds has_length once q origin rule path iff apart for = (
   λ p. inr (apart, ranked_route t holds q origin rule path iff for p, inl (rule, for, p.0)),
   λ h. elim h [ inl p ↦ absurd (apart p.0) | inr p ↦ ranked_back t holds has_length once q origin rule path iff for p.1 p.2 ],
 )
 
-ranked_first : (t : Table) (holds : IsTable t) → HasItsLength → SameBitsSamePrefix → (q : PrefixView) (rule : Rule) (a b : List ℕ) → IsRuleFor t.rules q rule
-    → ((other : Rule) × IsRuleFor t.rules q other × ComesFirst other.paths a b) ⊎ (NoRuleFor t.rules q × IsShorter a b) → ComesFirst rule.paths a b
+ranked_first : (t : Table) (holds : IsTable t) → HasItsLength → SameBitsSamePrefix → (q : PrefixView) (rule : RankRule) (a b : List ℕ) → IsRuleFor t.rules q rule
+    → ((other : RankRule) × IsRuleFor t.rules q other × ComesFirst other.paths a b) ⊎ (NoRuleFor t.rules q × IsShorter a b) → ComesFirst rule.paths a b
 ranked_first t holds has_length once q rule a b for (inl other) =
     subst (λ r. ComesFirst r.paths a b) (one_rule has_length once holds.all t.router t.rules holds.rules q other.0 rule other.1 for) other.2
 ranked_first t holds has_length once q rule a b for (inr none) = rule_or_none t.rules q rule for none.0
 
-pub ranked_prefers : (t : Table) (holds : IsTable t) → HasItsLength → SameBitsSamePrefix → (q : PrefixView) (rule : Rule) (a b : List ℕ) → (Originates t q t.router → ⊥) → IsRuleFor t.rules q rule
+pub ranked_prefers : (t : Table) (holds : IsTable t) → HasItsLength → SameBitsSamePrefix → (q : PrefixView) (rule : RankRule) (a b : List ℕ) → (Originates t q t.router → ⊥) → IsRuleFor t.rules q rule
     → ComesFirst rule.paths a b ↔ IsPreferred t q a b
 ranked_prefers t holds has_length once q rule a b apart for =
     (λ first. (apart, inl (rule, for, first)), λ h. ranked_first t holds has_length once q rule a b for h.1)
@@ -124,7 +124,7 @@ shortest_permits t q origin path iff apart none = (
   λ h. elim h [ inl p ↦ absurd (apart p.0) | inr p ↦ same_route t.router (Originates t q) (λ v. origin ≡ Some v) path (λ v. (iff v).1) p.1 ],
 )
 
-shorter_first : (t : Table) (q : PrefixView) (a b : List ℕ) → NoRuleFor t.rules q → ((other : Rule) × IsRuleFor t.rules q other × ComesFirst other.paths a b) ⊎ (NoRuleFor t.rules q × IsShorter a b) → IsShorter a b
+shorter_first : (t : Table) (q : PrefixView) (a b : List ℕ) → NoRuleFor t.rules q → ((other : RankRule) × IsRuleFor t.rules q other × ComesFirst other.paths a b) ⊎ (NoRuleFor t.rules q × IsShorter a b) → IsShorter a b
 shorter_first t q a b none (inl other) = rule_or_none t.rules q other.0 other.1 none
 shorter_first t q a b none (inr h) = h.1
 
@@ -139,7 +139,7 @@ preferred_self t q p h = elim h.1 [
 ]
 
 abbrev Ordered : Table → PrefixView → List ℕ → List ℕ → Type 0
-Ordered t q a b = ((other : Rule) × IsRuleFor t.rules q other × ComesFirst other.paths a b) ⊎ (NoRuleFor t.rules q × IsShorter a b)
+Ordered t q a b = ((other : RankRule) × IsRuleFor t.rules q other × ComesFirst other.paths a b) ⊎ (NoRuleFor t.rules q × IsShorter a b)
 
 ordered_trans : (t : Table) (holds : IsTable t) → HasItsLength → SameBitsSamePrefix → (q : PrefixView) (a b c : List ℕ) → Ordered t q a b → Ordered t q b c → Ordered t q a c
 ordered_trans t holds has_length once q a b c (inl g) (inl h) =

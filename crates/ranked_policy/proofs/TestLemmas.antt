@@ -13,7 +13,7 @@ use Rattle.std.proofs.lemmas.List.Elements.{All-nil, All-cons, All-contains}
 use Rattle.std.proofs.lemmas.List.Kept.{AllPairs-cons}
 use Rattle.prefix_lanes.specs.Bits.{PrefixView, Covers, bits, is_prefix}
 use Rattle.prefix_lanes.specs.Laws.{HasItsLength, SameBitsSamePrefix}
-use Rattle.ranked_policy.specs.declared.network.Rule.{Rule}
+use Rattle.ranked_policy.specs.declared.network.RankRule.{RankRule}
 use Rattle.ranked_policy.specs.Paths.{IsSimple, BeginsWith, EndsWith, IsRoute}
 use Rattle.ranked_policy.specs.Orders.{IsStrictTotalOrder, ComesFirst, IsShorter}
 use Rattle.ranked_policy.specs.Laws.{Above, above_from_first, first_from_above, Earlier, earlier_from_comes, comes_from_earlier}
@@ -154,7 +154,7 @@ shorter_test a b = either (nat_lt (length a) (length b)) ((length a == length b)
 
 -- ---- the rule of a prefix
 
-abbrev IsFound : List Rule → PrefixView → Option Rule → Type 0
+abbrev IsFound : List RankRule → PrefixView → Option RankRule → Type 0
 IsFound rules q None = NoRuleFor rules q
 IsFound rules q (Some rule) = IsRuleFor rules q rule
 
@@ -164,7 +164,7 @@ contains_cons x xs y c = (suc c.0, omega (arith, c.1), c.2)
 here : {X : Type 0} (x : X) (xs : List X) → Contains (x ∷ xs) x
 here x xs = (0, omega arith, refl)
 
-found_more : (rule : Rule) (rules : List Rule) (q : PrefixView) (found : Option Rule) → IsFound rules q found → Covers rule.prefix q → IsRuleFor (rule ∷ rules) q (test.longer rule found)
+found_more : (rule : RankRule) (rules : List RankRule) (q : PrefixView) (found : Option RankRule) → IsFound rules q found → Covers rule.prefix q → IsRuleFor (rule ∷ rules) q (test.longer rule found)
 found_more rule rules q None none covers = record {
   listed = here rule rules;
   covers = covers;
@@ -188,7 +188,7 @@ found_more rule rules q (Some other) is covers = at (nat_lt rule.prefix.len othe
           longest = All-cons (λ r. Covers r.prefix q → r.prefix.len ≤ rule.prefix.len) rule rules (λ c. omega arith) (λ k d m c. (let t = is.longest k d m c in omega (arith, l, t)));
         }
 
-found_same : (rule : Rule) (rules : List Rule) (q : PrefixView) (found : Option Rule) → IsFound rules q found → (Covers rule.prefix q → ⊥) → IsFound (rule ∷ rules) q found
+found_same : (rule : RankRule) (rules : List RankRule) (q : PrefixView) (found : Option RankRule) → IsFound rules q found → (Covers rule.prefix q → ⊥) → IsFound (rule ∷ rules) q found
 found_same rule rules q None none miss = All-cons (λ r. Covers r.prefix q → ⊥) rule rules miss none
 found_same rule rules q (Some other) is miss = record {
   listed = contains_cons rule rules other is.listed;
@@ -196,7 +196,7 @@ found_same rule rules q (Some other) is miss = record {
   longest = All-cons (λ r. Covers r.prefix q → r.prefix.len ≤ other.prefix.len) rule rules (λ c. absurd (miss c)) is.longest;
 }
 
-rule_found : (rules : List Rule) (q : PrefixView) → IsFound rules q (test.rule_for rules q)
+rule_found : (rules : List RankRule) (q : PrefixView) → IsFound rules q (test.rule_for rules q)
 rule_found [] q = All-nil (λ r. Covers r.prefix q → ⊥)
 rule_found (rule ∷ rules) q = at (test.covers rule.prefix q) (covers_test rule.prefix q) (rule_found rules q)
   where
@@ -204,20 +204,20 @@ rule_found (rule ∷ rules) q = at (test.covers rule.prefix q) (covers_test rule
     at true c is = found_more rule rules q (test.rule_for rules q) is (c.0 refl)
     at false c is = found_same rule rules q (test.rule_for rules q) is (λ h. false≢true (c.1 h))
 
-none_or_rule : {A : Type 0} (rules : List Rule) (q : PrefixView) (rule : Rule) → IsRuleFor rules q rule → NoRuleFor rules q → A
+none_or_rule : {A : Type 0} (rules : List RankRule) (q : PrefixView) (rule : RankRule) → IsRuleFor rules q rule → NoRuleFor rules q → A
 none_or_rule rules q rule is none = absurd (All-contains (λ r. Covers r.prefix q → ⊥) rules rule none is.listed is.covers)
 
 -- of the rules of a table, the longest that covers a prefix is the one that is found, and where none covers it none is found
-pub rule_is : OneRule → (t : Table) → IsTable t → (q : PrefixView) {A : Type 0} (what : A → Rule) (r : Option A) → MatchOption r (NoRuleFor t.rules q) (λ x. IsRuleFor t.rules q (what x))
+pub rule_is : OneRule → (t : Table) → IsTable t → (q : PrefixView) {A : Type 0} (what : A → RankRule) (r : Option A) → MatchOption r (NoRuleFor t.rules q) (λ x. IsRuleFor t.rules q (what x))
     → MatchOption r (test.rule_for t.rules q ≡ None) (λ x. test.rule_for t.rules q ≡ Some (what x))
 rule_is one t table q what None none = at (test.rule_for t.rules q) (rule_found t.rules q)
   where
-    at : (found : Option Rule) → IsFound t.rules q found → found ≡ None
+    at : (found : Option RankRule) → IsFound t.rules q found → found ≡ None
     at None same = refl
     at (Some other) found = none_or_rule t.rules q other found none
 rule_is one t table q what (Some x) is = at (test.rule_for t.rules q) (rule_found t.rules q)
   where
-    at : (found : Option Rule) → IsFound t.rules q found → found ≡ Some (what x)
+    at : (found : Option RankRule) → IsFound t.rules q found → found ≡ Some (what x)
     at None none = none_or_rule t.rules q (what x) is none
     at (Some other) found = ap Some (one t table q other (what x) found is)
 
@@ -228,24 +228,24 @@ module _ (one : OneRule) (t : Table) (table : IsTable t) (q : PrefixView) where
   origin_test u = any_test (λ o. is_prefix o.prefix q && (o.router == u)) (λ o. (o.prefix ≡ q) × (o.router ≡ u)) t.origins
       (λ o. both (is_prefix o.prefix q) (o.router == u) (prefix_test o.prefix q) (eq_test o.router u))
 
-  listed_test : (found : Option Rule) (path : List ℕ) → IsFound t.rules q found → Decides (test.is_listed found path) (IsListed t.rules q path)
+  listed_test : (found : Option RankRule) (path : List ℕ) → IsFound t.rules q found → Decides (test.is_listed found path) (IsListed t.rules q path)
   listed_test None path none = (λ h. inr none, λ h. refl)
   listed_test (Some rule) path is = alike (list_any (λ p. test.same_path p path) rule.paths) (contains_test test.same_path path_test rule.paths path)
       (λ c. inl (rule, is, c))
       (λ h. elim h [
-        | inl x ↦ subst (λ (r : Rule). Contains r.paths path) (one t table q x.0 rule x.1 is) x.2
+        | inl x ↦ subst (λ (r : RankRule). Contains r.paths path) (one t table q x.0 rule x.1 is) x.2
         | inr none ↦ none_or_rule t.rules q rule is none
       ])
 
   abbrev Before : List ℕ → List ℕ → Type 0
-  Before a b = ((rule : Rule) × IsRuleFor t.rules q rule × ComesFirst rule.paths a b) ⊎ (NoRuleFor t.rules q × IsShorter a b)
+  Before a b = ((rule : RankRule) × IsRuleFor t.rules q rule × ComesFirst rule.paths a b) ⊎ (NoRuleFor t.rules q × IsShorter a b)
 
-  before_test : (found : Option Rule) (a b : List ℕ) → IsFound t.rules q found → Decides (test.comes_before found a b) (Before a b)
+  before_test : (found : Option RankRule) (a b : List ℕ) → IsFound t.rules q found → Decides (test.comes_before found a b) (Before a b)
   before_test None a b none = alike (test.is_shorter a b) (shorter_test a b) (λ s. inr (none, s))
       (λ h. elim h [ inl x ↦ none_or_rule t.rules q x.0 x.1 none | inr x ↦ x.1 ])
   before_test (Some rule) a b is = alike (test.comes_first rule.paths a b) (first_test rule.paths a b) (λ f. inl (rule, is, f))
       (λ h. elim h [
-        | inl x ↦ subst (λ (r : Rule). ComesFirst r.paths a b) (one t table q x.0 rule x.1 is) x.2
+        | inl x ↦ subst (λ (r : RankRule). ComesFirst r.paths a b) (one t table q x.0 rule x.1 is) x.2
         | inr x ↦ none_or_rule t.rules q rule is x.0
       ])
 

@@ -4,10 +4,10 @@ use Rattle.std.specs.List.{All, AllPairs, count_by}
 use mathlib.Core.Logic.{◌⊎◌}
 use Rattle.prefix_lanes.specs.Bits.{PrefixView}
 use Rattle.ranked_policy.specs.declared.network.Settings.{Settings}
-use Rattle.ranked_policy.specs.declared.network.Router.{Router}
+use Rattle.ranked_policy.specs.declared.network.NetRouter.{NetRouter}
 use Rattle.ranked_policy.specs.declared.network.Link.{Link}
 use Rattle.ranked_policy.specs.declared.network.Origin.{Origin}
-use Rattle.ranked_policy.specs.declared.network.Rule.{Rule}
+use Rattle.ranked_policy.specs.declared.network.RankRule.{RankRule}
 use Rattle.ranked_policy.specs.declared.refusal.NetError.{NetError}
 use Rattle.ranked_policy.specs.declared.refusal.NetError.TheVariants.{NotSimple, TooLong, Repeated, Memory, UnknownRouter, Limit, BadNumber, NotConnected}
 use Rattle.ranked_policy.specs.Paths.{IsSimple, BeginsWith}
@@ -63,7 +63,7 @@ abbrev pub empty_plan : Settings → Plan
 empty_plan s = record { settings = s; routers = []; links = []; origins = [] }
 
 -- a new router meets what this refusal is about
-abbrev pub RouterMeets : Width → List Router → ℕ → ℕ → NetError → Type 0
+abbrev pub RouterMeets : Width → List NetRouter → ℕ → ℕ → NetError → Type 0
 RouterMeets width routers u id Repeated = All (λ r. (r.asn ≢ u) × (r.id ≢ id)) routers
 RouterMeets width routers u id Limit = length routers < MOST_ROUTERS
 RouterMeets width routers u id BadNumber = IsAsn width u × IsUnicast id
@@ -76,7 +76,7 @@ pub record AddsRouter (old new : Plan) (u id : ℕ) : Type 0 where
   pub origins : new.origins ≡ old.origins
 
 -- a new link meets what this refusal is about
-abbrev pub LinkMeets : List Router → List Link → ℕ → ℕ → NetError → Type 0
+abbrev pub LinkMeets : List NetRouter → List Link → ℕ → ℕ → NetError → Type 0
 LinkMeets routers links a b Repeated = (a ≢ b) × All (λ link. Joins link a b → ⊥) links
 LinkMeets routers links a b UnknownRouter = IsRouter routers a × IsRouter routers b
 LinkMeets routers links a b Limit = (count_by (touches a) links < MOST_LINKS) × (count_by (touches b) links < MOST_LINKS)
@@ -86,7 +86,7 @@ abbrev pub with_link : Plan → ℕ → ℕ → Plan
 with_link net a b = record net { links = net.links ++ (record { one = a; other = b }) ∷ [] }
 
 -- a new origin meets what this refusal is about
-abbrev pub OriginMeets : List Router → List Origin → ℕ → PrefixView → NetError → Type 0
+abbrev pub OriginMeets : List NetRouter → List Origin → ℕ → PrefixView → NetError → Type 0
 OriginMeets routers origins u q Repeated = IsNamed origins q → ⊥
 OriginMeets routers origins u q UnknownRouter = IsRouter routers u
 OriginMeets routers origins u q Limit = length origins < MOST_PREFIXES
@@ -99,7 +99,7 @@ pub record AddsOrigin (old new : Plan) (u : ℕ) (q : PrefixView) : Type 0 where
   pub links : new.links ≡ old.links
 
 -- a new rule meets what this refusal is about
-abbrev pub RuleMeets : List Router → ℕ → PrefixView → List (List ℕ) → NetError → Type 0
+abbrev pub RuleMeets : List NetRouter → ℕ → PrefixView → List (List ℕ) → NetError → Type 0
 RuleMeets routers u q paths NotSimple = All (λ path. BeginsWith path u × IsSimple path) paths
 RuleMeets routers u q paths TooLong = All (λ path. length path ≤ LONGEST_PATH) paths
 RuleMeets routers u q paths Repeated =
@@ -110,8 +110,8 @@ RuleMeets routers u q paths Limit = (length paths ≤ MOST_PATHS) × All (λ r. 
 RuleMeets routers u q paths e = Unit {0}
 
 -- a router has one more rule
-abbrev pub GainsRule : List Router → List Router → ℕ → Rule → Type 0
-GainsRule old new u rule = (r : Router) × (r.asn ≡ u) × Changes old new r (record r { rules = r.rules ++ rule ∷ [] })
+abbrev pub GainsRule : List NetRouter → List NetRouter → ℕ → RankRule → Type 0
+GainsRule old new u rule = (r : NetRouter) × (r.asn ≡ u) × Changes old new r (record r { rules = r.rules ++ rule ∷ [] })
 
 pub record AddsRule (old new : Plan) (u : ℕ) (q : PrefixView) (paths : List (List ℕ)) : Type 0 where
   pub routers : GainsRule old.routers new.routers u (record { prefix = q; paths = paths })
@@ -120,7 +120,7 @@ pub record AddsRule (old new : Plan) (u : ℕ) (q : PrefixView) (paths : List (L
   pub origins : new.origins ≡ old.origins
 
 -- the whole network meets what this refusal is about
-abbrev pub NetworkMeets : List Router → List Link → NetError → Type 0
+abbrev pub NetworkMeets : List NetRouter → List Link → NetError → Type 0
 NetworkMeets routers links Limit = 0 < length routers
 NetworkMeets routers links NotConnected = IsConnected routers links
 NetworkMeets routers links e = Unit {0}

@@ -5,24 +5,24 @@ use mathlib.Core.Logic.{◌⊎◌}
 use Rattle.bgp_values.specs.Ranges.{IsAsn, IsHoldTime, IsUnicast}
 use Rattle.prefix_lanes.specs.Bits.{PrefixView, IsCanonical}
 use Rattle.ranked_policy.specs.declared.network.Settings.{Settings}
-use Rattle.ranked_policy.specs.declared.network.Router.{Router}
+use Rattle.ranked_policy.specs.declared.network.NetRouter.{NetRouter}
 use Rattle.ranked_policy.specs.declared.network.Link.{Link}
 use Rattle.ranked_policy.specs.declared.network.Origin.{Origin}
-use Rattle.ranked_policy.specs.declared.network.Rule.{Rule}
+use Rattle.ranked_policy.specs.declared.network.RankRule.{RankRule}
 use Rattle.ranked_policy.specs.declared.limits.TheConstants.{GREATEST_CUT, GREATEST_PIPE, MOST_ROUTERS, MOST_LINKS, MOST_PREFIXES, MOST_RULES, MOST_PATHS, LONGEST_PATH}
 use Rattle.ranked_policy.specs.Paths.{IsSimple, BeginsWith}
 
 -- a network as plain data: the routers by rising number, the origins by rising prefix, links and rules as they were named
 pub record Plan : Type 0 where
   pub settings : Settings
-  pub routers : List Router
+  pub routers : List NetRouter
   pub links : List Link
   pub origins : List Origin
 
-abbrev pub numbers : List Router → List ℕ
+abbrev pub numbers : List NetRouter → List ℕ
 numbers routers = map (λ r. r.asn) routers
 
-abbrev pub identifiers : List Router → List ℕ
+abbrev pub identifiers : List NetRouter → List ℕ
 identifiers routers = map (λ r. r.id) routers
 
 -- the link joins these two, whichever it names first
@@ -36,7 +36,7 @@ touches u link = (link.one == u) || (link.other == u)
 abbrev pub Linked : List Link → ℕ → ℕ → Type 0
 Linked links u v = Any (λ link. Joins link u v) links
 
-abbrev pub IsRouter : List Router → ℕ → Type 0
+abbrev pub IsRouter : List NetRouter → ℕ → Type 0
 IsRouter routers u = Contains (numbers routers) u
 
 -- the router is named as origin of the prefix
@@ -57,7 +57,7 @@ abbrev pub Joined : List Link → ℕ → ℕ → Type 0
 Joined links u w = (vs : List ℕ) × Walks links u vs w
 
 -- links lead from each router to each other one
-abbrev pub IsConnected : List Router → List Link → Type 0
+abbrev pub IsConnected : List NetRouter → List Link → Type 0
 IsConnected routers links = (u v : ℕ) → IsRouter routers u → IsRouter routers v → Joined links u v
 
 -- each setting is in its range: the hold time that an OPEN proposes (RFC 4271 section 4.2), the octets of a piece, the
@@ -94,7 +94,7 @@ pub record AreRanked (all : List ℕ) (u : ℕ) (paths : List (List ℕ)) : Type
   pub known : All (All (Contains all)) paths
   pub few : length paths ≤ MOST_PATHS
 
-pub record AreRules (all : List ℕ) (u : ℕ) (rules : List Rule) : Type 0 where
+pub record AreRules (all : List ℕ) (u : ℕ) (rules : List RankRule) : Type 0 where
   pub few : length rules ≤ MOST_RULES
   pub canonical : All (λ rule. IsCanonical rule.prefix) rules
   pub distinct : AllPairs (λ rule later. rule.prefix ≢ later.prefix) rules

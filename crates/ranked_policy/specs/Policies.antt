@@ -4,7 +4,7 @@ use Rattle.std.specs.List.{All, Any, Contains}
 use mathlib.Core.Logic.{◌⊎◌}
 use Rattle.prefix_lanes.specs.Bits.{PrefixView, Covers}
 use Rattle.ranked_policy.specs.declared.network.Origin.{Origin}
-use Rattle.ranked_policy.specs.declared.network.Rule.{Rule}
+use Rattle.ranked_policy.specs.declared.network.RankRule.{RankRule}
 use Rattle.ranked_policy.specs.Paths.{IsRoute}
 use Rattle.ranked_policy.specs.Orders.{ComesFirst, IsShorter}
 use Rattle.ranked_policy.specs.Plans.{Plan, IsOrigin, IsNamed, AreRules, AreOrigins}
@@ -12,7 +12,7 @@ use Rattle.ranked_policy.specs.Plans.{Plan, IsOrigin, IsNamed, AreRules, AreOrig
 -- what a router's policies stand on: its number, its rules, and the origin of each prefix of the network
 pub record Table : Type 0 where
   pub router : ℕ
-  pub rules : List Rule
+  pub rules : List RankRule
   pub origins : List Origin
 
 abbrev pub IsTableOf : Plan → ℕ → Table → Type 0
@@ -29,17 +29,17 @@ IsOriginOf origins q None = IsNamed origins q → ⊥
 IsOriginOf origins q (Some u) = IsOrigin origins u q
 
 -- the longest rule that covers the prefix
-pub record IsRuleFor (rules : List Rule) (q : PrefixView) (rule : Rule) : Type 0 where
+pub record IsRuleFor (rules : List RankRule) (q : PrefixView) (rule : RankRule) : Type 0 where
   pub listed : Contains rules rule
   pub covers : Covers rule.prefix q
   pub longest : All (λ other. Covers other.prefix q → other.prefix.len ≤ rule.prefix.len) rules
 
-abbrev pub NoRuleFor : List Rule → PrefixView → Type 0
+abbrev pub NoRuleFor : List RankRule → PrefixView → Type 0
 NoRuleFor rules q = All (λ rule. Covers rule.prefix q → ⊥) rules
 
 -- the paths that the longest covering rule lists, or all where no rule covers the prefix
-abbrev pub IsListed : List Rule → PrefixView → List ℕ → Type 0
-IsListed rules q path = ((rule : Rule) × IsRuleFor rules q rule × Contains rule.paths path) ⊎ NoRuleFor rules q
+abbrev pub IsListed : List RankRule → PrefixView → List ℕ → Type 0
+IsListed rules q path = ((rule : RankRule) × IsRuleFor rules q rule × Contains rule.paths path) ⊎ NoRuleFor rules q
 
 -- the permitted paths: an origin has the path of itself alone, another router each route to the origin that is listed
 abbrev pub IsPermitted : Table → PrefixView → List ℕ → Type 0
@@ -51,7 +51,8 @@ IsPermitted table q path =
 abbrev pub IsPreferred : Table → PrefixView → List ℕ → List ℕ → Type 0
 IsPreferred table q a b =
     (Originates table q table.router → ⊥)
-    × (((rule : Rule) × IsRuleFor table.rules q rule × ComesFirst rule.paths a b) ⊎ (NoRuleFor table.rules q × IsShorter a b))
+    × (((rule : RankRule) × IsRuleFor table.rules q rule × ComesFirst rule.paths a b) ⊎ (NoRuleFor table.rules q
+    × IsShorter a b))
 
 -- what holds of the table of a network's router
 pub record IsTable (table : Table) : Type 0 where

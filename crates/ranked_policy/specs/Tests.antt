@@ -5,7 +5,7 @@ use Rattle.std.specs.List.{list_any, Contains}
 use mathlib.Core.Logic.{◌⊎◌}
 use Rattle.prefix_lanes.specs.Bits.{PrefixView, bits, is_prefix}
 use Rattle.ranked_policy.specs.declared.limits.TheConstants.{LONGEST_PATH}
-use Rattle.ranked_policy.specs.declared.network.Rule.{Rule}
+use Rattle.ranked_policy.specs.declared.network.RankRule.{RankRule}
 use Rattle.ranked_policy.specs.Policies.{Table, IsTable, IsPermitted, IsPreferred}
 
 -- ---- prefixes
@@ -73,20 +73,20 @@ abbrev pub originates : Table → PrefixView → ℕ → Bool
 originates table q u = list_any (λ origin. is_prefix origin.prefix q && (origin.router == u)) table.origins
 
 -- the longer of a rule and another, if there is another
-abbrev pub longer : Rule → Option Rule → Rule
+abbrev pub longer : RankRule → Option RankRule → RankRule
 longer rule None = rule
 longer rule (Some other) = if nat_lt rule.prefix.len other.prefix.len then other else rule
 
 -- the longest rule that covers the prefix
-abbrev pub rule_for : List Rule → PrefixView → Option Rule
+abbrev pub rule_for : List RankRule → PrefixView → Option RankRule
 rule_for [] q = None
 rule_for (rule ∷ rules) q = if covers rule.prefix q then Some (longer rule (rule_for rules q)) else rule_for rules q
 
-abbrev pub is_listed : Option Rule → List ℕ → Bool
+abbrev pub is_listed : Option RankRule → List ℕ → Bool
 is_listed None path = true
 is_listed (Some rule) path = list_any (λ listed. same_path listed path) rule.paths
 
-abbrev pub comes_before : Option Rule → List ℕ → List ℕ → Bool
+abbrev pub comes_before : Option RankRule → List ℕ → List ℕ → Bool
 comes_before None a b = is_shorter a b
 comes_before (Some rule) a b = comes_first rule.paths a b
 

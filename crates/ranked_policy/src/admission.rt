@@ -12,7 +12,7 @@ use crate::limits::{
     GREATEST_CUT, GREATEST_PIPE, LONGEST_PATH, MOST_LINKS, MOST_PATHS, MOST_PREFIXES, MOST_ROUTERS,
     MOST_RULES,
 };
-use crate::network::{Link, Origin, Router, Rule, Settings};
+use crate::network::{Link, NetRouter, Origin, RankRule, Settings};
 use crate::path::{Asn, Path};
 use crate::places::find_router;
 use crate::policy::{begins_with, is_listed, is_simple};
@@ -41,7 +41,7 @@ fn is_numbered(width: Width, asn: Asn, id: u32) -> bool
 }
 
 // Whether no router has the number or the identifier.
-fn is_new_router(routers: &[Router], asn: Asn, id: u32) -> bool
+fn is_new_router(routers: &[NetRouter], asn: Asn, id: u32) -> bool
     ensures { IsTrue result ↔ All (λ r. (r.asn ≢ asn) × (r.id ≢ id)) routers.now }
 {
     for router in routers {
@@ -54,7 +54,7 @@ fn is_new_router(routers: &[Router], asn: Asn, id: u32) -> bool
 
 pub(crate) fn judge_router(
     width: Width,
-    routers: &[Router],
+    routers: &[NetRouter],
     asn: Asn,
     id: u32,
 ) -> Result<(), NetError>
@@ -73,7 +73,7 @@ pub(crate) fn judge_router(
 }
 
 // Whether a router has the number. Routers rise by number, so it is searched for.
-fn is_router(routers: &[Router], asn: Asn) -> bool
+fn is_router(routers: &[NetRouter], asn: Asn) -> bool
     requires { AllPairs (λ u v. u < v) (numbers routers.now) }
     ensures { IsTrue result ↔ IsRouter routers.now asn }
 {
@@ -99,7 +99,7 @@ fn links_of(links: &[Link], asn: Asn) -> usize
 }
 
 pub(crate) fn judge_link(
-    routers: &[Router],
+    routers: &[NetRouter],
     links: &[Link],
     ways: &Ways,
     a: Asn,
@@ -134,7 +134,7 @@ pub(crate) fn is_named(origins: &[Origin], prefix: &Prefix) -> bool
 }
 
 pub(crate) fn judge_origin(
-    routers: &[Router],
+    routers: &[NetRouter],
     origins: &[Origin],
     asn: Asn,
     prefix: &Prefix,
@@ -193,7 +193,7 @@ fn are_distinct(paths: &[Path]) -> bool
 }
 
 // Whether none of these rules is for the prefix.
-fn is_new_rule(rules: &[Rule], prefix: &Prefix) -> bool
+fn is_new_rule(rules: &[RankRule], prefix: &Prefix) -> bool
     ensures { IsTrue result ↔ All (λ rule. rule.prefix ≢ prefix.now) rules.now }
 {
     for rule in rules {
@@ -205,7 +205,7 @@ fn is_new_rule(rules: &[Rule], prefix: &Prefix) -> bool
 }
 
 // Whether the router has no rule for the prefix.
-fn is_unruled(routers: &[Router], asn: Asn, prefix: &Prefix) -> bool
+fn is_unruled(routers: &[NetRouter], asn: Asn, prefix: &Prefix) -> bool
     ensures { IsTrue result ↔ All (λ r. r.asn ≡ asn → All (λ rule. rule.prefix ≢ prefix.now) r.rules) routers.now }
 {
     for router in routers {
@@ -217,7 +217,7 @@ fn is_unruled(routers: &[Router], asn: Asn, prefix: &Prefix) -> bool
 }
 
 // Whether the router can have one more rule.
-fn has_room(routers: &[Router], asn: Asn) -> bool
+fn has_room(routers: &[NetRouter], asn: Asn) -> bool
     ensures { IsTrue result ↔ All (λ r. r.asn ≡ asn → length r.rules < MOST_RULES) routers.now }
 {
     for router in routers {
@@ -229,7 +229,7 @@ fn has_room(routers: &[Router], asn: Asn) -> bool
 }
 
 // Whether each number is that of a router.
-fn are_routers(routers: &[Router], asns: &[Asn]) -> bool
+fn are_routers(routers: &[NetRouter], asns: &[Asn]) -> bool
     requires { AllPairs (λ u v. u < v) (numbers routers.now) }
     ensures { IsTrue result ↔ All (IsRouter routers.now) asns.now }
 {
@@ -242,7 +242,7 @@ fn are_routers(routers: &[Router], asns: &[Asn]) -> bool
 }
 
 // Whether the paths name routers alone.
-fn are_known(routers: &[Router], paths: &[Path]) -> bool
+fn are_known(routers: &[NetRouter], paths: &[Path]) -> bool
     requires { AllPairs (λ u v. u < v) (numbers routers.now) }
     ensures { IsTrue result ↔ All (All (IsRouter routers.now)) paths.now }
 {
@@ -255,7 +255,7 @@ fn are_known(routers: &[Router], paths: &[Path]) -> bool
 }
 
 pub(crate) fn judge_rule(
-    routers: &[Router],
+    routers: &[NetRouter],
     asn: Asn,
     prefix: &Prefix,
     paths: &[Path],

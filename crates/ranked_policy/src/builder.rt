@@ -9,8 +9,8 @@ ghost use Rattle.ranked_policy.specs.Ways.{HasWay};
 
 use crate::admission::{is_settings, judge_link, judge_origin, judge_router, judge_rule};
 use crate::connected::is_connected;
-use crate::items::Items;
-use crate::network::{Link, Network, Origin, Router, Rule, Settings};
+use crate::items::NetItems;
+use crate::network::{Link, NetRouter, Network, Origin, RankRule, Settings};
 use crate::path::{Asn, Path};
 use crate::places::{
     find_prefix, find_router, is_origin, place_of_prefix, place_of_router, router_of,
@@ -27,7 +27,7 @@ use std::marker::Model;
 #[derive(Debug, Drop)]
 pub struct NetBuilder {
     settings: Settings,
-    routers: Vec<Router>,
+    routers: Vec<NetRouter>,
     links: Vec<Link>,
     origins: Vec<Origin>,
     // The links from either end.
@@ -79,7 +79,7 @@ impl NetBuilder {
             return Err(NetError::Repeated);
         };
         let rules = Rules::new(*self.routers.allocator());
-        if let Err(_) = self.routers.insert(place, Router { asn, id, rules }) {
+        if let Err(_) = self.routers.insert(place, NetRouter { asn, id, rules }) {
             return Err(NetError::Memory);
         }
         Ok(())
@@ -152,8 +152,8 @@ impl NetBuilder {
         let Ok(place) = place_of_router(self.routers.as_slice(), asn) else {
             return Err(NetError::UnknownRouter);
         };
-        let paths = Items::from_vec(paths);
-        if let Err(_) = self.routers[place].rules.push(Rule { prefix, paths }) {
+        let paths = NetItems::from_vec(paths);
+        if let Err(_) = self.routers[place].rules.push(RankRule { prefix, paths }) {
             return Err(NetError::Memory);
         }
         Ok(())
@@ -187,7 +187,7 @@ impl NetBuilder {
     }
 
     /// The routers, by rising number.
-    pub fn routers(&self) -> &[Router]
+    pub fn routers(&self) -> &[NetRouter]
         ensures value { result.now ≡ self.now.routers }
         ensures plan { IsPlan self.now }
     {
@@ -249,7 +249,7 @@ impl NetBuilder {
     }
 
     /// The router with this number.
-    pub fn router(&self, asn: Asn) -> Option<&Router>
+    pub fn router(&self, asn: Asn) -> Option<&NetRouter>
         ensures some { IsSome result ↔ IsRouter self.now.routers asn }
         ensures value { IfSome result (λ router. (router.now.asn ≡ asn) × Contains self.now.routers router.now) }
     {

@@ -6,12 +6,12 @@ ghost use Rattle.ranked_policy.specs.Plans.{numbers, IsRouter, IsConnected};
 ghost use Rattle.ranked_policy.specs.Reaching.{IsMarked, LeadsTo, IsClosed};
 
 use crate::limits::MOST_ROUTERS;
-use crate::network::{Link, Router};
+use crate::network::{Link, NetRouter};
 use crate::places::place_of_router;
 
 /// Whether links lead from each router to each other one: the routers that are reached from the
 /// first are marked until no link leads on.
-pub(crate) fn is_connected(routers: &[Router], links: &[Link]) -> bool
+pub(crate) fn is_connected(routers: &[NetRouter], links: &[Link]) -> bool
     requires few { length routers.now ≤ MOST_ROUTERS }
     requires rising { AllPairs (λ u v. u < v) (numbers routers.now) }
     requires known { All (λ link. IsRouter routers.now link.one × IsRouter routers.now link.other) links.now }
@@ -26,7 +26,7 @@ pub(crate) fn is_connected(routers: &[Router], links: &[Link]) -> bool
 }
 
 // The place of a router that is not marked, and that a link joins with one that is.
-fn next_place(routers: &[Router], links: &[Link], reached: &[bool]) -> Option<usize>
+fn next_place(routers: &[NetRouter], links: &[Link], reached: &[bool]) -> Option<usize>
     requires room { length routers.now ≤ length reached.now }
     requires rising { AllPairs (λ u v. u < v) (numbers routers.now) }
     requires known { All (λ link. IsRouter routers.now link.one × IsRouter routers.now link.other) links.now }

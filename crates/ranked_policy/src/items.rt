@@ -7,11 +7,11 @@ use std::marker::Model;
 
 /// A list of a network's parts, in their order.
 #[derive(Debug, Drop)]
-pub struct Items<T> {
+pub struct NetItems<T> {
     items: Vec<T>,
 }
 
-impl<T> Model for Items<T> {
+impl<T> Model for NetItems<T> {
     ghost use Rattle.std.specs.Prelude.{List};
 
     ghost Value = { List T };
@@ -19,21 +19,21 @@ impl<T> Model for Items<T> {
     ghost view = { λ list. list.items.items };
 }
 
-impl<T> Items<T> {
+impl<T> NetItems<T> {
     /// The empty list, which takes no memory.
-    pub fn new(alloc: Global) -> Items<T>
+    pub fn new(alloc: Global) -> NetItems<T>
         ensures { result ≡ [] }
     {
-        Items {
+        NetItems {
             items: Vec::new(alloc),
         }
     }
 
     /// The items of a `Vec`, which it keeps. It takes no memory.
-    pub fn from_vec(items: Vec<T>) -> Items<T>
+    pub fn from_vec(items: Vec<T>) -> NetItems<T>
         ensures { result ≡ items.items }
     {
-        Items { items }
+        NetItems { items }
     }
 
     /// The `Vec` that holds the items. It takes no memory.
@@ -65,7 +65,7 @@ impl<T> Items<T> {
     }
 }
 
-impl<T: Drop> Items<T> {
+impl<T: Drop> NetItems<T> {
     /// Adds an item at the end. A refused growth changes nothing.
     pub(crate) fn push(&mut self, item: T) -> Result<(), AllocError>
         ensures ok { OnOk result (self.new ≡ self.old ++ item ∷ []) }

@@ -32,12 +32,12 @@ mod table;
 mod ways;
 
 pub use builder::NetBuilder;
-pub use items::Items;
+pub use items::NetItems;
 pub use limits::{
     GREATEST_CUT, GREATEST_PIPE, LONGEST_PATH, MOST_LINKS, MOST_PATHS, MOST_PREFIXES, MOST_ROUTERS,
     MOST_RULES,
 };
-pub use network::{Link, Network, Origin, Router, Rule, Settings};
+pub use network::{Link, NetRouter, Network, Origin, RankRule, Settings};
 pub use path::{Asn, Path};
 pub use policy::{Chosen, Only, Policy, Ranked, Shortest};
 pub use refusal::NetError;

@@ -1,7 +1,7 @@
 //! Networks as they are kept.
 
 use crate::builder::NetBuilder;
-use crate::items::Items;
+use crate::items::NetItems;
 use crate::path::{Asn, Path};
 use crate::peers::peers_of;
 use crate::places::{find_prefix, find_router};
@@ -29,16 +29,16 @@ pub struct Settings {
 
 /// The paths that a router may use for the prefixes that a prefix covers, the best first.
 #[derive(Debug, Drop)]
-pub struct Rule {
+pub struct RankRule {
     /// The prefix that covers those prefixes.
     pub prefix: Prefix,
     /// Its ranked paths.
-    pub paths: Items<Path>,
+    pub paths: NetItems<Path>,
 }
 
 /// A router.
 #[derive(Debug, Drop)]
-pub struct Router {
+pub struct NetRouter {
     /// Its number.
     pub asn: Asn,
     /// Its identifier, an address (RFC 4271 section 4.2).
@@ -115,7 +115,7 @@ impl Network {
     }
 
     /// The routers, by rising number.
-    pub fn routers(&self) -> &[Router]
+    pub fn routers(&self) -> &[NetRouter]
         ensures value { result.now ≡ self.now.routers }
         ensures network { IsNetwork self.now }
     {
@@ -198,7 +198,7 @@ impl Network {
     }
 
     /// The router with this number.
-    pub fn router(&self, asn: Asn) -> Option<&Router>
+    pub fn router(&self, asn: Asn) -> Option<&NetRouter>
         ensures some { IsSome result ↔ IsRouter self.now.routers asn }
         ensures value { IfSome result (λ router. (router.now.asn ≡ asn) × Contains self.now.routers router.now) }
     {
@@ -206,7 +206,7 @@ impl Network {
     }
 
     /// The numbers of a router's peers, rising. It is refused only for want of memory.
-    pub fn peers(&self, alloc: Global, asn: Asn) -> Result<Items<Asn>, AllocError>
+    pub fn peers(&self, alloc: Global, asn: Asn) -> Result<NetItems<Asn>, AllocError>
         ensures rising { IfOk result (λ peers. AllPairs (λ u v. u < v) peers) }
         ensures exact { IfOk result (λ peers. (v : ℕ) → (Contains peers v ↔ Linked self.now.links asn v)) }
         ensures peers { IfOk result (λ numbers. numbers ≡ peers self.now asn) }

@@ -5,12 +5,12 @@ ghost use Rattle.std.specs.List.{All, AllPairs, Contains, HoldsAt};
 ghost use Rattle.ranked_policy.specs.Plans.{numbers, IsBefore, IsNamed, IsOrigin, IsRouter};
 ghost use Rattle.ranked_policy.specs.Policies.{IsOriginOf};
 
-use crate::network::{Origin, Router};
+use crate::network::{NetRouter, Origin};
 use crate::path::Asn;
 use prefix_lanes::Prefix;
 
 // The place of the router with this number, or the place where it belongs.
-pub(crate) fn place_of_router(routers: &[Router], asn: Asn) -> Result<usize, usize>
+pub(crate) fn place_of_router(routers: &[NetRouter], asn: Asn) -> Result<usize, usize>
     requires { AllPairs (λ u v. u < v) (numbers routers.now) }
     ensures found { IfOk result (λ i. (i < length routers.now) × HoldsAt (λ r. r.asn ≡ asn) routers.now i) }
     ensures bound { IfErr result (λ i. i ≤ length routers.now) }
@@ -40,7 +40,7 @@ fn order_of(prefix: &Prefix) -> (u32, u8)
 }
 
 // The place that the number has if all numbers are consecutive; `None` if it does not stand there.
-fn consecutive_place(routers: &[Router], asn: Asn) -> Option<usize>
+fn consecutive_place(routers: &[NetRouter], asn: Asn) -> Option<usize>
     ensures { IfSome result (λ i. (i < length routers.now) × HoldsAt (λ r. r.asn ≡ asn) routers.now i) }
 {
     let first = routers.first()?;
@@ -54,7 +54,7 @@ fn consecutive_place(routers: &[Router], asn: Asn) -> Option<usize>
 
 // The place of the router with this number. Most networks number their routers without a gap, so
 // the place that this gives is tried before a search.
-pub(crate) fn find_router(routers: &[Router], asn: Asn) -> Option<usize>
+pub(crate) fn find_router(routers: &[NetRouter], asn: Asn) -> Option<usize>
     requires { AllPairs (λ u v. u < v) (numbers routers.now) }
     ensures some { IsSome result ↔ IsRouter routers.now asn }
     ensures value { IfSome result (λ i. (i < length routers.now) × HoldsAt (λ r. r.asn ≡ asn) routers.now i) }
@@ -82,7 +82,7 @@ pub(crate) fn find_prefix(origins: &[Origin], prefix: &Prefix) -> Option<usize>
 }
 
 // The router with this number.
-pub(crate) fn router_of(routers: &[Router], asn: Asn) -> Option<&Router>
+pub(crate) fn router_of(routers: &[NetRouter], asn: Asn) -> Option<&NetRouter>
     requires { AllPairs (λ u v. u < v) (numbers routers.now) }
     ensures some { IsSome result ↔ IsRouter routers.now asn }
     ensures value { IfSome result (λ router. (router.now.asn ≡ asn) × Contains routers.now router.now) }

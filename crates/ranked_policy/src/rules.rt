@@ -4,7 +4,7 @@ ghost use Rattle.std.specs.Prelude.{◌≡◌, ◌<◌, [], ◌∷◌, ◌++◌,
 ghost use Rattle.ranked_policy.specs.Policies.{IsRuleFor, NoRuleFor};
 ghost use Rattle.ranked_policy.specs.declared.limits.TheConstants.{MOST_RULES};
 
-use crate::network::Rule;
+use crate::network::RankRule;
 use prefix_lanes::{CoverTable, Prefix};
 use std::alloc::{AllocError, Global};
 use std::marker::Model;
@@ -12,16 +12,16 @@ use std::marker::Model;
 /// The rules of a router, in the order in which they were named. Contracts see the list of them.
 #[derive(Debug, Drop)]
 pub struct Rules {
-    rules: Vec<Rule>,
+    rules: Vec<RankRule>,
     // The prefixes of the rules, in their order.
     prefixes: CoverTable,
 }
 
 impl Model for Rules {
     ghost use Rattle.std.specs.Prelude.{◌≡◌, List, map};
-    ghost use Rattle.ranked_policy.specs.declared.network.Rule.{Rule};
+    ghost use Rattle.ranked_policy.specs.declared.network.RankRule.{RankRule};
 
-    ghost Value = { List Rule };
+    ghost Value = { List RankRule };
 
     ghost view = { λ r. r.rules.items };
 
@@ -40,7 +40,7 @@ impl Rules {
     }
 
     /// The rules.
-    pub fn as_slice(&self) -> &[Rule]
+    pub fn as_slice(&self) -> &[RankRule]
         ensures { result.now ≡ self.now }
     {
         self.rules.as_slice()
@@ -54,7 +54,7 @@ impl Rules {
     }
 
     /// Adds a rule at the end. A refused growth changes nothing.
-    pub(crate) fn push(&mut self, rule: Rule) -> Result<(), AllocError>
+    pub(crate) fn push(&mut self, rule: RankRule) -> Result<(), AllocError>
         requires { length self.old < MOST_RULES }
         ensures ok { OnOk result (self.new ≡ self.old ++ rule ∷ []) }
         ensures err { OnErr result (self.new ≡ self.old) }
@@ -68,7 +68,7 @@ impl Rules {
     }
 
     /// The rule whose prefix is the longest that covers this one. `None` exactly where none covers it.
-    pub fn longest(&self, prefix: &Prefix) -> Option<&Rule>
+    pub fn longest(&self, prefix: &Prefix) -> Option<&RankRule>
         ensures { MatchOption result (NoRuleFor self.now prefix.now) (λ rule. IsRuleFor self.now prefix.now rule.now) }
     {
         match self.prefixes.longest(prefix) {

@@ -7,7 +7,7 @@ ghost use Rattle.ranked_policy.specs.Policies.{IsTable, IsPermitted, IsPreferred
 ghost use Rattle.ranked_policy.specs.Choosing.{chosen_permits, chosen_prefers};
 ghost use Rattle.ranked_policy.specs.Tests.{rule_for};
 
-use crate::network::{Origin, Rule};
+use crate::network::{Origin, RankRule};
 use crate::path::Asn;
 use crate::places::origin_of;
 use crate::policy::{Chosen, Only, Ranked, Shortest};
@@ -81,7 +81,7 @@ impl<'a> PolicyTable<'a> {
     }
 
     /// The rule whose prefix is the longest that covers this one. `None` if no rule of the router covers it.
-    pub fn rule(&self, prefix: &Prefix) -> Option<&'a Rule>
+    pub fn rule(&self, prefix: &Prefix) -> Option<&'a RankRule>
         ensures { MatchOption result (rule_for self.now.rules prefix.now ≡ None)
             (λ rule. rule_for self.now.rules prefix.now ≡ Some rule.now) }
     {

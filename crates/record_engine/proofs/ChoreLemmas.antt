@@ -5,7 +5,7 @@ use Rattle.std.specs.List.{AllByRecursion, Contains}
 use Rattle.std.proofs.Math.Nat.{div-eq_of_lt}
 use Rattle.std.proofs.lemmas.Bool.{cases_lt, lt-ltb}
 use Rattle.ranked_policy.specs.Plans.{Plan}
-use Rattle.ranked_policy.specs.declared.network.Router.{Router}
+use Rattle.ranked_policy.specs.declared.network.NetRouter.{NetRouter}
 use Rattle.router_model.specs.declared.command.Command.TheVariants.{Start, Originate, Snapshot}
 use Rattle.router_model.specs.Settings.{peers}
 use Rattle.worker_loop.specs.declared.chore.Chore.{Chore}
@@ -79,7 +79,7 @@ weaker few most c le h s is = (let k = h s is in omega (arith, k, le))
 abbrev IsLowTold : ℕ → Told → Type 0
 IsLowTold most told = (i : ℕ) → IsLow most (chore_at told i)
 
-told_low : (most : ℕ) (net : Plan) (spacing snapshots : ℕ) → snapshots ≤ most → (rs : List Router) → AllByRecursion (IsLowTold most) (told_each net spacing snapshots rs)
+told_low : (most : ℕ) (net : Plan) (spacing snapshots : ℕ) → snapshots ≤ most → (rs : List NetRouter) → AllByRecursion (IsLowTold most) (told_each net spacing snapshots rs)
 told_low most net spacing snapshots le [] = tt
 told_low most net spacing snapshots le (r ∷ rs) = (
   λ i. at_place most (opening net r.asn) i (later_chore spacing snapshots (i - length (opening net r.asn))) (opening_low most net r.asn)

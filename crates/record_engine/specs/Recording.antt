@@ -10,7 +10,7 @@ use Rattle.world_core.specs.declared.schedule.Event.{Event}
 use Rattle.world_core.specs.Verdicts.{judged}
 use Rattle.schedule_text.specs.Events.{event_line, head_of_schedule}
 use Rattle.schedule_text.specs.Reports.{snapshot_line, now_line}
-use Rattle.worker_loop.specs.declared.journal.Entry.{Entry}
+use Rattle.worker_loop.specs.declared.journal.WorkerEvent.{WorkerEvent}
 use Rattle.net_workers.specs.declared.record.RunFault.TheVariants as fault
 use Rattle.net_workers.specs.declared.record.Worked.{Worked}
 use Rattle.text_engines.specs.declared.status.TheConstants.{DONE}
@@ -26,7 +26,7 @@ use Rattle.text_engines.specs.Inputs.{LinesPrint}
 -- ---- the text of a record
 
 -- the events of a record, in the order of their stamps
-abbrev pub events_of : List Entry → List Event
+abbrev pub events_of : List WorkerEvent → List Event
 events_of entries = map (λ e. e.event) entries
 
 -- each of these events as an order

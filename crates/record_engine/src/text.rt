@@ -7,14 +7,14 @@ ghost use Rattle.schedule_text.specs.Reports.{snapshot_line};
 ghost use Rattle.record_engine.specs.Recording.{events_of, events_text, record_text, verdicts_text, kept_text, ending_text};
 
 use net_text::put_network;
-use net_workers::{Entry, Record, Worked};
+use net_workers::{Record, Worked, WorkerEvent};
 use ranked_policy::{Network, Origin};
 use schedule_text::{event_line, now_line, put_router, snapshot_line};
 use snap_collector::Collector;
 use std::alloc::{AllocError, Global};
 
 // Appends the events of these entries, each as an order.
-fn put_events(entries: &[Entry], out: &mut Vec<u8>) -> Result<(), AllocError>
+fn put_events(entries: &[WorkerEvent], out: &mut Vec<u8>) -> Result<(), AllocError>
     ensures { OnOk result (out.new.items ≡ out.old.items ++ events_text (events_of entries.now)) }
 {
     for entry in entries {
@@ -24,7 +24,11 @@ fn put_events(entries: &[Entry], out: &mut Vec<u8>) -> Result<(), AllocError>
 }
 
 /// The text of the events of these entries, behind the lines of a network.
-pub fn record_text(alloc: Global, lines: &[u8], entries: &[Entry]) -> Result<Vec<u8>, AllocError>
+pub fn record_text(
+    alloc: Global,
+    lines: &[u8],
+    entries: &[WorkerEvent],
+) -> Result<Vec<u8>, AllocError>
     ensures { IfOk result (λ text. text.items ≡ record_text (lines_of lines.now) (events_of entries.now)) }
 {
     let mut out = Vec::new(alloc);

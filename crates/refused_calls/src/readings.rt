@@ -46,7 +46,7 @@ fn push_peer(
     push(text, acted(alloc, router, peer))?;
     push(text, sent(alloc, router, peer))?;
     push(text, next(alloc, router, peer))?;
-    let (takes, quiet) = (router.may_take(peer), router.is_quiet(peer));
+    let (takes, quiet) = (router.may_take(peer), router.link_is_idle(peer));
     push(text, format!(in alloc; " takes {takes} quiet {quiet}"))
 }
 

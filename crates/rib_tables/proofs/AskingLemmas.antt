@@ -15,7 +15,7 @@ use Rattle.rib_tables.specs.declared.row.Row.{Row}
 use Rattle.rib_tables.specs.Places.{has}
 use Rattle.rib_tables.specs.Words.{nothing}
 use Rattle.rib_tables.specs.Least.{HoldsOfAll, IsLeastWithout}
-use Rattle.rib_tables.specs.Owners.{RibView, IsSettled, IsServed, IsAwaited, AllServed}
+use Rattle.rib_tables.specs.Owners.{RibView, IsSettled, IsServed, HasWaitingPeer, AllServed}
 use Rattle.rib_tables.specs.Rows.{IsRib, AreDecided, AreJudged, AllBest, IsFirstUndecided, view_of}
 use Rattle.rib_tables.proofs.RibLemmas.{row_named}
 use Rattle.rib_tables.proofs.SessionLemmas.{listed_up}
@@ -54,7 +54,7 @@ module _ (net : Plan) (router : ℕ) (peers : List Peer) (keys : List PrefixView
         (waits_here net router peers keys rows rib.whole place r at k p there w (rib.told.each k p w there here) in_it)
         (λ j s lt at_s. served_here net router peers keys rows rib.whole j s at_s k p there w (rib.told.each k p w there here) (below j lt))
 
-    pub is_awaited_there : (place : ℕ) (r : Row) → slice_get rows place ≡ Some r → has w place ≡ true → IsAwaited view
+    pub is_awaited_there : (place : ℕ) (r : Row) → slice_get rows place ≡ Some r → has w place ≡ true → HasWaitingPeer view
     is_awaited_there place r at in_it = record {
       peer = p.asn;
       prefix = r.prefix;

@@ -4,7 +4,7 @@ use Rattle.std.specs.Prelude.{◌↔◌, MatchOption}
 use Rattle.std.specs.List.{slice_get}
 use Rattle.std.proofs.lemmas.Bool.{cases_order, both_ways, false≢true}
 use Rattle.std.proofs.lemmas.Option.{slice_get_within, get_or_from_slice_get, slice_get-get_or}
-use Rattle.ranked_policy.specs.declared.network.Router.{Router}
+use Rattle.ranked_policy.specs.declared.network.NetRouter.{NetRouter}
 use Rattle.ranked_policy.specs.Plans.{Plan, IsNetwork, IsRouter, numbers}
 use Rattle.ranked_policy.specs.Policies.{Table, IsTableOf}
 use Rattle.ranked_policy.specs.Promises.{EachPolicyIsAnOrder}
@@ -22,7 +22,7 @@ use Rattle.rib_tables.proofs.ChangeLemmas.{from_map}
 -- a router of a network has a table of policies
 pub table_at : (net : Plan) (u : ℕ) → IsRouter net.routers u → (table : Table) × IsTableOf net u table
 table_at net u there =
-    let x = from_map (λ (r : Router). r.asn) net.routers there.0 u (slice_get-get_or (numbers net.routers) there.0 u there.1 ∙ ap Some there.2) in (
+    let x = from_map (λ (r : NetRouter). r.asn) net.routers there.0 u (slice_get-get_or (numbers net.routers) there.0 u there.1 ∙ ap Some there.2) in (
       record { router = u; rules = x.0.rules; origins = net.origins },
       (refl, refl, (there.0, x.0, slice_get_within net.routers there.0 x.0 x.1, get_or_from_slice_get net.routers there.0 x.0 x.0 x.1, (sym x.2, refl))),
     )

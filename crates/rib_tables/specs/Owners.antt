@@ -31,7 +31,7 @@ abbrev pub IsServed : RibView → ℕ → PrefixView → Type 0
 IsServed s peer q = Contains s.established peer → IsTold s.sent s.kept peer q
 
 -- some Established peer was not told some kept path
-pub record IsAwaited (s : RibView) : Type 0 where
+pub record HasWaitingPeer (s : RibView) : Type 0 where
   pub peer : ℕ
   pub prefix : PrefixView
   pub is_named : IsNamed s.net.origins prefix
@@ -43,7 +43,7 @@ AllServed s = (v : ℕ) → HoldsOfAll s.net.origins (IsServed s v)
 
 -- some kept path is not the best, or some Established peer was not told one
 abbrev pub IsPending : RibView → Type 0
-IsPending s = ((q : PrefixView) × IsNamed s.net.origins q × (IsSettled s q → ⊥)) ⊎ IsAwaited s
+IsPending s = ((q : PrefixView) × IsNamed s.net.origins q × (IsSettled s q → ⊥)) ⊎ HasWaitingPeer s
 
 -- the tables as they are made: nothing is heard, sent, originated or kept, and no session is Established
 pub record IsNew (net : Plan) (router : ℕ) (s : RibView) : Type 0 where

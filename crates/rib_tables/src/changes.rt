@@ -290,7 +290,7 @@ pub(crate) fn mark_words(rows: &[Row], dirty: &mut PlaceSet, peer: usize)
 }
 
 // The places whose kept path is not the last word sent to a peer.
-pub(crate) fn untold(rows: &[Row], peer: usize) -> PlaceSet
+pub(crate) fn unadvertised(rows: &[Row], peer: usize) -> PlaceSet
     requires few { length rows.now ≤ MOST_PREFIXES }
     requires words { (i : ℕ) (r : Row) → slice_get rows.now i ≡ Some r → peer < length r.sent }
     ensures { (i : ℕ) (r : Row) → slice_get rows.now i ≡ Some r
@@ -416,26 +416,26 @@ pub(crate) fn clear_all(alloc: Global, rows: &mut Vec<Row>, dirty: &mut PlaceSet
 }
 
 // The places that a peer waits for. It takes no memory.
-fn awaited(peer: &Peer, rows: &[Row], place: usize) -> PlaceSet
+fn waiting_now(peer: &Peer, rows: &[Row], place: usize) -> PlaceSet
     requires few { length rows.now ≤ MOST_PREFIXES }
     requires words { (i : ℕ) (r : Row) → slice_get rows.now i ≡ Some r → place < length r.sent }
     ensures { IsWaiting place peer.now rows.now result }
 {
     if peer.up {
-        untold(rows, place)
+        unadvertised(rows, place)
     } else {
         PlaceSet::new()
     }
 }
 
 // Sets what each peer waits for, after a change of all rows. It takes no memory.
-pub(crate) fn await_all(peers: &[Peer], rows: &[Row], waits: &mut Vec<PlaceSet>)
+pub(crate) fn wait_after_all(peers: &[Peer], rows: &[Row], waits: &mut Vec<PlaceSet>)
     requires few { length rows.now ≤ MOST_PREFIXES }
     requires words { (i : ℕ) (r : Row) → slice_get rows.now i ≡ Some r → length r.sent ≡ length peers.now }
     requires len { length waits.old.items ≡ length peers.now }
     ensures { AreWaiting peers.now rows.now waits.new.items }
 {
     for (place, peer) in peers.iter().enumerate() {
-        waits[place] = awaited(peer, rows, place);
+        waits[place] = waiting_now(peer, rows, place);
     }
 }

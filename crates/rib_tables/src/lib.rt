@@ -7,7 +7,7 @@
 //!
 //! The one contract: after the UPDATEs of a list, each prefix of the network has the word of its
 //! last mention ([`laws::the_last_word_stays`]); [`Rib::best`] is the first permitted choice over
-//! those words in the order of the router's policy; [`Rib::undecided`] and [`Rib::waiting`] are the
+//! those words in the order of the router's policy; [`Rib::dirty`] and [`Rib::waiting`] are the
 //! least prefix, by address and then by length, that is to be decided, or to be told.
 //!
 //! The definitions stand in `specs/`: `Words` (what an UPDATE says of a prefix), `Tables` (the word

@@ -10,11 +10,11 @@ ghost use Rattle.rib_tables.specs.Words.{nothing, TellsPath};
 ghost use Rattle.rib_tables.specs.Tables.{word_of, path_of};
 ghost use Rattle.rib_tables.specs.Least.{HoldsOfAll, IsLeastWithout};
 ghost use Rattle.rib_tables.specs.Choices.{IsBest, IsSources};
-ghost use Rattle.rib_tables.specs.Owners.{sources_of, IsSettled, IsServed, IsAwaited, AllServed, IsPending, IsNew, HearsUpdate, TellsKept, ComesUp, ForgetsPeer, Originating, Withdrawing, KeepsPath, Decides, Clears};
+ghost use Rattle.rib_tables.specs.Owners.{sources_of, IsSettled, IsServed, HasWaitingPeer, AllServed, IsPending, IsNew, HearsUpdate, TellsKept, ComesUp, ForgetsPeer, Originating, Withdrawing, KeepsPath, Decides, Clears};
 
 use crate::changes::{
-    await_all, clear_all, forget_all, hear_path, hear_update, keep_at, mark_words, originate_at,
-    place_of, place_of_peer, set_up, tell_at, untold, wait_all,
+    clear_all, forget_all, hear_path, hear_update, keep_at, mark_words, originate_at, place_of,
+    place_of_peer, set_up, tell_at, unadvertised, wait_after_all, wait_all,
 };
 use crate::opening::{keys_of, no_waits, peers_down, rows_of};
 use crate::place_set::PlaceSet;
@@ -264,7 +264,7 @@ impl<'a> Rib<'a> {
     {
         mark_words(self.rows.as_slice(), &mut self.dirty, place);
         set_up(&mut self.peers, place, true);
-        self.waits[place] = untold(self.rows.as_slice(), place);
+        self.waits[place] = unadvertised(self.rows.as_slice(), place);
     }
 
     /// Records that the session with a peer is left, and forgets all words heard from it and sent to it. It takes no
@@ -334,7 +334,7 @@ impl<'a> Rib<'a> {
     {
         let alloc = *self.peers.allocator();
         clear_all(alloc, &mut self.rows, &mut self.dirty);
-        await_all(self.peers.as_slice(), self.rows.as_slice(), &mut self.waits);
+        wait_after_all(self.peers.as_slice(), self.rows.as_slice(), &mut self.waits);
     }
 
     /// The best of the router's choices for a prefix of the network (RFC 4271 section 9.1.2). It is the first
@@ -429,8 +429,8 @@ impl<'a> Rib<'a> {
     }
 
     /// Whether some Established peer was not told some kept path. It takes no memory.
-    pub fn is_awaited(&self) -> bool
-        ensures some { result ≡ true → IsAwaited self.now }
+    pub fn has_waiting_peer(&self) -> bool
+        ensures some { result ≡ true → HasWaitingPeer self.now }
         ensures none { result ≡ false → AllServed self.now }
     {
         for waiting in self.waits.as_slice() {
@@ -443,10 +443,10 @@ impl<'a> Rib<'a> {
 
     /// Whether it is seen without a look at a path that nothing is to be done: each kept path is the best, and each
     /// Established peer was told each of them. `false` says nothing. It takes no memory.
-    pub fn rests(&self) -> bool
+    pub fn has_nothing_to_do(&self) -> bool
         ensures { result ≡ true → HoldsOfAll self.now.net.origins (IsSettled self.now) × AllServed self.now }
     {
-        self.dirty.is_empty() && !self.is_awaited()
+        self.dirty.is_empty() && !self.has_waiting_peer()
     }
 
     /// Whether anything is still to be done: some kept path is not the best, or some Established
@@ -455,6 +455,6 @@ impl<'a> Rib<'a> {
         ensures some { result ≡ true → IsPending self.now }
         ensures none { result ≡ false → HoldsOfAll self.now.net.origins (IsSettled self.now) × AllServed self.now }
     {
-        self.dirty().is_some() || self.is_awaited()
+        self.dirty().is_some() || self.has_waiting_peer()
     }
 }

@@ -10,7 +10,7 @@ use Rattle.router_model.specs.declared.refusal.RouterError.TheVariants as error
 use Rattle.router_model.specs.declared.refusal.Stepped.{Stepped}
 use Rattle.router_model.specs.declared.refusal.Stepped.TheVariants as stepped
 use Rattle.router_model.specs.Settings.{Setting, peers}
-use Rattle.router_model.specs.State.{untold, is_waiting_peer}
+use Rattle.router_model.specs.State.{unadvertised, is_waiting_peer}
 use Rattle.router_model.specs.Step.{Advertises, telling_to, telling_of}
 use Rattle.router_model.specs.Calls.{Stamped, Advertise, Gives, answer, judged, has_room, stamped_after}
 use Rattle.run_model.specs.declared.stamps.TheConstants.{GREATEST_STAMP}
@@ -30,14 +30,14 @@ module _ (g : Setting) (x : RouterView) (same : g.net ≡ x.net) where
   pub is_nobody : IsNext x next.Nobody → Gives g x.number (Ok stepped.Nothing) (answer g x.number (plain_of x) Advertise) (plain_of x) Advertise (plain_of x)
   is_nobody h = rw (rooms ∙ h.0, waits ∙ h.1) (refl, refl)
 
-  told_is : (v : ℕ) (q : PrefixView) → untold (unchosen x.net) x.number (plain_of x).router v ≡ Some q
+  told_is : (v : ℕ) (q : PrefixView) → unadvertised (unchosen x.net) x.number (plain_of x).router v ≡ Some q
       → told_to (plain_of x) x.net x.number v q ≡ stamped_after g x.number (plain_of x) Advertise (alone (Advertises v))
   told_is v q h =
-      let waits : untold g x.number (plain_of x).router v ≡ Some q = ap (λ (net : Plan). untold (unchosen net) x.number (plain_of x).router v) same ∙ h in
+      let waits : unadvertised g x.number (plain_of x).router v ≡ Some q = ap (λ (net : Plan). unadvertised (unchosen net) x.number (plain_of x).router v) same ∙ h in
       ap (λ (net : Plan). told_to (plain_of x) net x.number v q) (sym same)
       ∙ ap (λ (o : Option PrefixView). record { router = telling_to (plain_of x).router v o (telling_of g x.number (plain_of x).router); stamp = x.stamp + 1 }) (sym waits)
 
-  module _ (r : Result Stepped RouterError) (v : ℕ) (q : PrefixView) (y : RouterView) (waits_for : untold (unchosen x.net) x.number (plain_of x).router v ≡ Some q) where
+  module _ (r : Result Stepped RouterError) (v : ℕ) (q : PrefixView) (y : RouterView) (waits_for : unadvertised (unchosen x.net) x.number (plain_of x).router v ≡ Some q) where
     by_stamp : (late : Bool) → Ends late false r (plain_of x) (told_to (plain_of x) x.net x.number v q) (plain_of y)
         → Gives g x.number r (judged None (Some (alone (Advertises v))) late false) (plain_of x) Advertise (plain_of y)
     by_stamp true h = h

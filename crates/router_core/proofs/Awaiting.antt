@@ -15,7 +15,7 @@ use Rattle.rib_tables.specs.Least.{HoldsOfAll, IsLeastWithout}
 use Rattle.rib_tables.specs.Owners.{IsServed}
 use Rattle.router_model.specs.Settings.{Setting, linked, prefixes}
 use Rattle.router_model.specs.Sides.{is_up}
-use Rattle.router_model.specs.State.{Router, last_told, same_path, is_untold, untold, is_waiting_peer}
+use Rattle.router_model.specs.State.{Router, last_told, same_path, is_unadvertised, unadvertised, is_waiting_peer}
 use Rattle.router_core.specs.Views.{RouterView, IsSound, IsTabled, Follows, sides_of, plain_of}
 use Rattle.router_core.proofs.Naming.{decides_linked}
 use Rattle.router_core.proofs.Leasts.{least_is, any_is_found}
@@ -76,18 +76,18 @@ module _ (g : Setting) (x : RouterView) (sound : IsSound x) (same : g.net ≡ x.
     none_down down (Some q) h = absurd (h.fails (down_served down q))
 
     untold_by : (b : Bool) → is_up (sides_of x v) ≡ b → (found : Option PrefixView)
-        → MatchOption found (HoldsOfAll x.tables.net.origins (IsServed x.tables v)) (IsLeastWithout x.tables.net.origins (IsServed x.tables v)) → found ≡ untold g x.number r v
+        → MatchOption found (HoldsOfAll x.tables.net.origins (IsServed x.tables v)) (IsLeastWithout x.tables.net.origins (IsServed x.tables v)) → found ≡ unadvertised g x.number r v
     untold_by true up found h =
         least_is (λ q. same_path (path_of x.tables.kept q) (path_in (last_told (sides_of x v) q))) (IsServed x.tables v) x.net.origins rising (served_decides up) found (found_in (IsServed x.tables v) found h)
-        ∙ prefixes_are (is_untold g x.number r v) ∙ rw (there, up) refl
+        ∙ prefixes_are (is_unadvertised g x.number r v) ∙ rw (there, up) refl
     untold_by false up found h = none_down up found h ∙ rw (there, up) refl
 
     pub untold_is : (found : Option PrefixView) → MatchOption found (HoldsOfAll x.tables.net.origins (IsServed x.tables v)) (IsLeastWithout x.tables.net.origins (IsServed x.tables v))
-        → found ≡ untold g x.number r v
+        → found ≡ unadvertised g x.number r v
     untold_is found h = untold_by (is_up (sides_of x v)) refl found h
 
-    waits_by : (b : Bool) → is_up (sides_of x v) ≡ b → is_waiting_peer g x.number r v ≡ is_some (untold g x.number r v)
-    waits_by true up = rw (there, up) (any_is_found (is_untold g x.number r v) (prefixes g))
+    waits_by : (b : Bool) → is_up (sides_of x v) ≡ b → is_waiting_peer g x.number r v ≡ is_some (unadvertised g x.number r v)
+    waits_by true up = rw (there, up) (any_is_found (is_unadvertised g x.number r v) (prefixes g))
     waits_by false up = rw (there, up) refl
 
     pub waiting_is : (found : Option PrefixView) → MatchOption found (HoldsOfAll x.tables.net.origins (IsServed x.tables v)) (IsLeastWithout x.tables.net.origins (IsServed x.tables v))

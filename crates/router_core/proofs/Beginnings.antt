@@ -14,7 +14,7 @@ use Rattle.bgp_values.specs.declared.width.Width.TheVariants.{Two, Four}
 use Rattle.bgp_values.specs.Ranges.{is_hold_time, is_unicast, IsUnicast, IsAsn, greatest_asn}
 use Rattle.bgp_codec.specs.Spelling.{WrittenHasAHeader}
 use Rattle.ranked_policy.specs.declared.network.Link.{Link}
-use Rattle.ranked_policy.specs.declared.network.Router.{Router}
+use Rattle.ranked_policy.specs.declared.network.NetRouter.{NetRouter}
 use Rattle.ranked_policy.specs.Plans.{Plan, IsNetwork, Joins, Linked, IsRouter, numbers, identifiers}
 use Rattle.router_model.specs.Settings.{joins, linked, identifier}
 use Rattle.router_model.specs.State.{asn_field, params_of}
@@ -103,23 +103,23 @@ map_at f [] k x = refl
 map_at f (y ∷ xs) zero x = refl
 map_at f (y ∷ xs) (suc k) x = map_at f xs k x
 
-id_is : (rs : List Router) (k : ℕ) (r : Router) (u : ℕ) → AllPairs (λ a b. a < b) (numbers rs) → k < length rs → get_or rs k r ≡ r → r.asn ≡ u → identifier rs u ≡ r.id
+id_is : (rs : List NetRouter) (k : ℕ) (r : NetRouter) (u : ℕ) → AllPairs (λ a b. a < b) (numbers rs) → k < length rs → get_or rs k r ≡ r → r.asn ≡ u → identifier rs u ≡ r.id
 id_is [] k r u p l at e = absurd (omega (arith, l))
-id_is (x ∷ rs) zero r u p l at e = rw (eq-eqb x.asn u (ap (λ (w : Router). w.asn) at ∙ e)) (ap (λ (w : Router). w.id) at)
+id_is (x ∷ rs) zero r u p l at e = rw (eq-eqb x.asn u (ap (λ (w : NetRouter). w.asn) at ∙ e)) (ap (λ (w : NetRouter). w.id) at)
 id_is (x ∷ rs) (suc k) r u p l at e =
-    let len : length (numbers rs) ≡ length rs = length-map rs (λ (w : Router). w.asn) in
+    let len : length (numbers rs) ≡ length rs = length-map rs (λ (w : NetRouter). w.asn) in
     let later : x.asn < get_or (numbers rs) k r.asn = p 0 (suc k) r.asn (omega arith) (omega (arith, len, l)) in
-    let there : get_or (numbers rs) k r.asn ≡ u = map_at (λ (w : Router). w.asn) rs k r ∙ ap (λ (w : Router). w.asn) at ∙ e in
+    let there : get_or (numbers rs) k r.asn ≡ u = map_at (λ (w : NetRouter). w.asn) rs k r ∙ ap (λ (w : NetRouter). w.asn) at ∙ e in
     let rest : AllPairs (λ a b. a < b) (numbers rs) = λ i j d lt le. p (suc i) (suc j) d (omega (arith, lt)) (omega (arith, le)) in
     rw (ne_eqb x.asn u (λ q. absurd (omega (arith, later, there, q)))) (id_is rs k r u rest (omega (arith, l)) at e)
 
-pub identifier_is : (net : Plan) → IsNetwork net → (r : Router) (u : ℕ) → Contains net.routers r → r.asn ≡ u → identifier net.routers u ≡ r.id
+pub identifier_is : (net : Plan) → IsNetwork net → (r : NetRouter) (u : ℕ) → Contains net.routers r → r.asn ≡ u → identifier net.routers u ≡ r.id
 identifier_is net n r u c e = id_is net.routers c.0 r u n.plan.rising c.1 c.2 e
 
-pub is_unicast_host : (net : Plan) → IsNetwork net → (r : Router) → Contains net.routers r → IsUnicast r.id
+pub is_unicast_host : (net : Plan) → IsNetwork net → (r : NetRouter) → Contains net.routers r → IsUnicast r.id
 is_unicast_host net n r c =
-    let len : length (identifiers net.routers) ≡ length net.routers = length-map net.routers (λ (w : Router). w.id) in
-    let at : get_or (identifiers net.routers) c.0 r.id ≡ r.id = map_at (λ (w : Router). w.id) net.routers c.0 r ∙ ap (λ (w : Router). w.id) c.2 in
+    let len : length (identifiers net.routers) ≡ length net.routers = length-map net.routers (λ (w : NetRouter). w.id) in
+    let at : get_or (identifiers net.routers) c.0 r.id ≡ r.id = map_at (λ (w : NetRouter). w.id) net.routers c.0 r ∙ ap (λ (w : NetRouter). w.id) c.2 in
     All-contains IsUnicast (identifiers net.routers) r.id n.plan.unicast (c.0, omega (arith, len, c.1), at)
 
 pub asn_fits : (net : Plan) → IsNetwork net → (u : ℕ) → IsRouter net.routers u → u ≤ greatest_asn net.settings.width

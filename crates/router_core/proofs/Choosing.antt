@@ -17,7 +17,7 @@ use Rattle.stable_paths.specs.Stable.{IsBest}
 use Rattle.stable_paths.specs.Promises.{OneBest}
 use Rattle.router_model.specs.Settings.{Setting, ChoosesByRank, linked}
 use Rattle.router_model.specs.Sides.{is_up}
-use Rattle.router_model.specs.State.{Router, heard, same_path, path_from, route, is_undecided, undecided}
+use Rattle.router_model.specs.State.{Router, heard, same_path, path_from, best_path, is_undecided, undecided}
 use Rattle.router_core.specs.Views.{RouterView, IsSound, IsTabled, sides_of, plain_of}
 use Rattle.router_core.proofs.Leasts.{least_is}
 use Rattle.router_core.proofs.Awaiting.{path_decides, link_is, rising, found_in, prefixes_are}
@@ -85,26 +85,26 @@ module _ (over : BestOverWords) (one : OneBest) (g : Setting) (x : RouterView) (
       (over_words q n path).1
       (subst (λ (u : ℕ). Over x.tables.net u q path) (sym tabled.router) (subst (λ (net : Plan). Over net x.number q path) (sym tables_net) b))
 
-  by_rank : (q : PrefixView) → IsNamed x.net.origins q → IsBest (problem g.net x.number q x.tables.originated (words q)) (words q) x.number (route g x.number r q)
+  by_rank : (q : PrefixView) → IsNamed x.net.origins q → IsBest (problem g.net x.number q x.tables.originated (words q)) (words q) x.number (best_path g x.number r q)
   by_rank q n = c.ranks x.number router_in q (named_in q n) (lists x.tables.originated q) (words q)
 
   -- the best of the tables is the route
-  pub best_is_route : (q : PrefixView) → IsNamed x.net.origins q → (path : List ℕ) → tables.IsBest (sources_of x.tables) q path → path ≡ route g x.number r q
+  pub best_is_route : (q : PrefixView) → IsNamed x.net.origins q → (path : List ℕ) → tables.IsBest (sources_of x.tables) q path → path ≡ best_path g x.number r q
   best_is_route q n path best =
       let is : IsNetwork g.net = subst IsNetwork (sym c.net) c.sound.network in
-      one (problem g.net x.number q x.tables.originated (words q)) (record { network = is; named = named_in q n }) (words q) x.number path (route g x.number r q) (best_over q n path best) (by_rank q n)
+      one (problem g.net x.number q x.tables.originated (words q)) (record { network = is; named = named_in q n }) (words q) x.number path (best_path g x.number r q) (best_over q n path best) (by_rank q n)
 
   -- ---- what is to be decided
 
-  pub settled_decides : (q : PrefixView) → IsNamed x.net.origins q → Decides (same_path (path_of x.tables.kept q) (route g x.number r q)) (IsSettled x.tables q)
+  pub settled_decides : (q : PrefixView) → IsNamed x.net.origins q → Decides (same_path (path_of x.tables.kept q) (best_path g x.number r q)) (IsSettled x.tables q)
   settled_decides q n =
-      let d = path_decides (path_of x.tables.kept q) (route g x.number r q) in (
-        λ t. subst (tables.IsBest (sources_of x.tables) q) (sym (d.0 t)) (best_under q n (route g x.number r q) (by_rank q n)),
+      let d = path_decides (path_of x.tables.kept q) (best_path g x.number r q) in (
+        λ t. subst (tables.IsBest (sources_of x.tables) q) (sym (d.0 t)) (best_under q n (best_path g x.number r q) (by_rank q n)),
         λ s. d.1 (best_is_route q n (path_of x.tables.kept q) s),
       )
 
   pub undecided_is : (found : Option PrefixView) → MatchOption found (HoldsOfAll x.tables.net.origins (IsSettled x.tables)) (IsLeastWithout x.tables.net.origins (IsSettled x.tables))
       → found ≡ undecided g x.number r
   undecided_is found h =
-      least_is (λ q. same_path (path_of x.tables.kept q) (route g x.number r q)) (IsSettled x.tables) x.net.origins (rising g x c.sound c.net) settled_decides found (found_in g x c.sound c.net (IsSettled x.tables) found h)
+      least_is (λ q. same_path (path_of x.tables.kept q) (best_path g x.number r q)) (IsSettled x.tables) x.net.origins (rising g x c.sound c.net) settled_decides found (found_in g x c.sound c.net (IsSettled x.tables) found h)
       ∙ prefixes_are g x c.sound c.net (is_undecided g x.number r)

@@ -17,7 +17,7 @@ use Rattle.stable_paths.specs.Promises.{OneBest}
 use Rattle.router_model.specs.declared.refusal.RouterError.TheVariants as error
 use Rattle.router_model.specs.declared.refusal.Stepped.TheVariants as stepped
 use Rattle.router_model.specs.Settings.{Setting}
-use Rattle.router_model.specs.State.{undecided, route}
+use Rattle.router_model.specs.State.{undecided, best_path}
 use Rattle.run_model.specs.Network.{alone}
 use Rattle.router_model.specs.Step as step
 use Rattle.router_model.specs.Step.{keeping}
@@ -121,12 +121,12 @@ module _ (over : BestOverWords) (one : OneBest) (g : Setting) (x : RouterView) (
         → Gives g x.number (Ok stepped.Did) (answer g x.number (plain_of x) Decide) (plain_of x) Decide (plain_of (with_tables x t (x.stamp + 1)))
     decides t d early =
         let named = subst (λ (net : Plan). IsNamed net.origins q) c.sound.tabled.net least.is_named in
-        let is : d.best ≡ route g x.number (plain_of x).router q = best_is_route over one g x c q named d.best d.is_best in
-        let all : (p : PrefixView) → path_of t.kept p ≡ cond (is_prefix q p) (route g x.number (plain_of x).router q) (path_of x.tables.kept p) =
+        let is : d.best ≡ best_path g x.number (plain_of x).router q = best_is_route over one g x c q named d.best d.is_best in
+        let all : (p : PrefixView) → path_of t.kept p ≡ cond (is_prefix q p) (best_path g x.number (plain_of x).router q) (path_of x.tables.kept p) =
         λ p. kept_by x c.sound t q d.best d.keeps p (is_prefix q p) refl ∙ ap (λ (path : List ℕ). cond (is_prefix q p) path (path_of x.tables.kept p)) is in
         rw (first, early) (
           refl,
           ap (λ (s : RibView). plain_of (with_tables x s (x.stamp + 1))) d.keeps.rest
               ∙ ap (λ (f : PrefixView → List ℕ). record { router = record (plain_of x).router { kept = f }; stamp = x.stamp + 1 }) (fun_ext all)
-              ∙ ap (λ (o : Option PrefixView). record { router = keeping (plain_of x).router o (route g x.number (plain_of x).router); stamp = x.stamp + 1 }) (sym first),
+              ∙ ap (λ (o : Option PrefixView). record { router = keeping (plain_of x).router o (best_path g x.number (plain_of x).router); stamp = x.stamp + 1 }) (sym first),
         )

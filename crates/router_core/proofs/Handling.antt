@@ -29,7 +29,7 @@ use Rattle.snap_marker.specs.declared.part.Part.{Part}
 use Rattle.snap_marker.specs.declared.part.Channel.{Channel}
 use Rattle.snap_marker.specs.Parts.{IsOver, IsLink, leads_to, peers_of}
 use Rattle.snap_marker.specs.Recordings.{Snapshots}
-use Rattle.router_model.specs.Sides.{Side, AtHand, NoMessage, HasFault, HasUpdate, Draft, acted_with, with_update, carried, at_hand, front, without_front, handled, is_up, is_established}
+use Rattle.router_model.specs.Sides.{Side, AtHand, NoMessage, HasFault, HasUpdate, Draft, acted_with, with_update, carried, at_hand, front, without_front, draft_message, is_up, is_established}
 use Rattle.router_model.specs.State.{rule_of}
 use Rattle.router_model.specs.Step.{seen}
 use Rattle.router_side.specs.Freshness.{IsFresh, ComesUpUnsaid, ActsWhereUp, HandlingKeepsFresh}
@@ -218,7 +218,7 @@ module _ (word_follows : WordFollows) (r : RouterView) (v i : ℕ) (p q : Peer) 
   tracks_handled k h =
       let s = side p.end in
       let m = front (rule_of r.net r.number v) s.held in
-      let d = handled r.own_open m s in
+      let d = draft_message r.own_open m s in
       let back : d ≡ h.draft = sym h.draft_is in
       tracks_draft h.hand h.draft h.between h.side h.hears h.follows
       (subst (λ (w : AtHand). IsFresh (carried w (without_front s) h.draft)) (sym h.hand_is) (subst (λ (a : Draft). IsFresh (carried (at_hand m) (without_front s) a)) back k.fresh))

@@ -15,7 +15,7 @@ use Rattle.bgp_codec.specs.Updates.{UpdateFits}
 use Rattle.rib_tables.specs.Words.{TellsPath}
 use Rattle.rib_tables.specs.Owners.{RibView, HearsUpdate}
 use Rattle.snap_marker.specs.Parts.{MarkView, snapshots_of}
-use Rattle.router_model.specs.Sides.{Side, HasUpdate, at_hand, carried, front, handled, is_up, is_established, without_front}
+use Rattle.router_model.specs.Sides.{Side, HasUpdate, at_hand, carried, front, draft_message, is_up, is_established, without_front}
 use Rattle.router_model.specs.State.{telling}
 use Rattle.router_side.specs.Acting.{IsRouteInFront, UpdatesAreActedOn}
 use Rattle.router_side.specs.SideOf.{acting, naming, IsInFront}
@@ -58,7 +58,7 @@ module _ (law : UpdatesAreActedOn) (o : Message) (rule : Rule) (own v : ℕ) (s 
     draft = acting s;
     between = new;
     hand_is = sym (ap at_hand reads);
-    draft_is = sym (ap (λ (m : Result Message Fault). handled o m s) reads ∙ law o u s up);
+    draft_is = sym (ap (λ (m : Result Message Fault). draft_message o m s) reads ∙ law o u s up);
     side = carries;
     hears = hears;
     follows = subst (λ (k : Side). Followed new new v (standing s) (standing k)) (sym carries) (stays_by (is_established s.session.state) s.link.epoch new v);

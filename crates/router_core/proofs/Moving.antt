@@ -7,14 +7,14 @@ use Rattle.bgp_codec.specs.declared.message.Message.{Message}
 use Rattle.snap_marker.specs.Recordings.{RouterOffer, Snapshots, closed}
 use Rattle.router_model.specs.Sides.{Side, Draft, NoMessage}
 use Rattle.router_model.specs.Step.{close_at, or_first, first_close}
-use Rattle.router_side.specs.declared.draft.Sketch.{Sketch}
+use Rattle.router_side.specs.declared.draft.SideDraft.{SideDraft}
 use Rattle.router_side.specs.Freshness.{IsFresh, KeepsFresh, SessionsKeepFresh}
 use Rattle.router_side.specs.SideOf.{side}
 use Rattle.router_core.specs.declared.peers.Peer.{Peer}
 use Rattle.router_core.specs.Views.{RouterView, IsAt, side_at}
-use Rattle.router_core.specs.declared.router.all.Whole.{Whole}
-use Rattle.router_core.specs.declared.router.all.Whole.TheVariants as whole
-use Rattle.router_core.specs.Whole.{draft_by, overflow_in, IsReady, AreReady, IsRest, first_left}
+use Rattle.router_core.specs.declared.router.to_all.ToAll.{ToAll}
+use Rattle.router_core.specs.declared.router.to_all.ToAll.TheVariants as whole
+use Rattle.router_core.specs.ToAll.{draft_by, overflow_in, IsReady, AreReady, IsRest, first_left}
 use Rattle.router_core.proofs.Marking.{Passed}
 use Rattle.router_core.proofs.Recording.{Rises}
 
@@ -22,35 +22,35 @@ use Rattle.router_core.proofs.Recording.{Rises}
 
 module _ (own : Message) (D : Side → Draft) where
   -- the first peers have theirs
-  abbrev pub ReadyBelow : ℕ → List Peer → List Sketch → Type 0
+  abbrev pub ReadyBelow : ℕ → List Peer → List SideDraft → Type 0
   ReadyBelow zero ps ms = ms ≡ []
   ReadyBelow (suc i) (p ∷ ps) (a ∷ ms) = IsReady own D p a × ReadyBelow i ps ms
   ReadyBelow (suc i) [] ms = ⊥
   ReadyBelow (suc i) (p ∷ ps) [] = ⊥
 
-  ready_more : (i : ℕ) (ps : List Peer) (ms : List Sketch) (p : Peer) (a : Sketch) → ReadyBelow i ps ms → i < length ps → IsReady own D p a → ReadyBelow (suc i) (set ps i p) (ms ++ a ∷ [])
+  ready_more : (i : ℕ) (ps : List Peer) (ms : List SideDraft) (p : Peer) (a : SideDraft) → ReadyBelow i ps ms → i < length ps → IsReady own D p a → ReadyBelow (suc i) (set ps i p) (ms ++ a ∷ [])
   ready_more i [] ms p a h l r = absurd (omega (arith, l))
   ready_more zero (q ∷ ps) ms p a h l r = rw h (r, refl)
   ready_more (suc i) (q ∷ ps) [] p a h l r = absurd h
   ready_more (suc i) (q ∷ ps) (b ∷ ms) p a h l r = (h.0, ready_more i ps ms p a h.1 (omega (arith, l)) r)
 
-  pub ready_next : (i : ℕ) (ps : List Peer) (ms : List Sketch) (p : Peer) (a : Sketch) → ReadyBelow i ps ms → i < length ps → IsReady own D p a → ReadyBelow (i + 1) (set ps i p) (ms ++ a ∷ [])
+  pub ready_next : (i : ℕ) (ps : List Peer) (ms : List SideDraft) (p : Peer) (a : SideDraft) → ReadyBelow i ps ms → i < length ps → IsReady own D p a → ReadyBelow (i + 1) (set ps i p) (ms ++ a ∷ [])
   ready_next i ps ms p a h l r = (let one : suc i ≡ i + 1 = omega arith in subst (λ n. ReadyBelow n (set ps i p) (ms ++ a ∷ [])) one (ready_more i ps ms p a h l r))
 
-  pub ready_all : (i : ℕ) (ps : List Peer) (ms : List Sketch) → ReadyBelow i ps ms → length ps ≤ i → AreReady own D ps ms
+  pub ready_all : (i : ℕ) (ps : List Peer) (ms : List SideDraft) → ReadyBelow i ps ms → length ps ≤ i → AreReady own D ps ms
   ready_all zero [] ms h l = rw h tt
   ready_all zero (p ∷ ps) ms h l = absurd (omega (arith, l))
   ready_all (suc i) [] ms h l = absurd h
   ready_all (suc i) (p ∷ ps) [] h l = absurd h
   ready_all (suc i) (p ∷ ps) (a ∷ ms) h l = (h.0, ready_all i ps ms h.1 (omega (arith, l)))
 
-  pub ready_here : (i : ℕ) (ps : List Peer) (ms : List Sketch) (p : Peer) (a : Sketch) → AreReady own D ps ms → i < length ms → IsReady own D (get_or ps i p) (get_or ms i a)
+  pub ready_here : (i : ℕ) (ps : List Peer) (ms : List SideDraft) (p : Peer) (a : SideDraft) → AreReady own D ps ms → i < length ms → IsReady own D (get_or ps i p) (get_or ms i a)
   ready_here i ps [] p a h l = absurd (omega (arith, l))
   ready_here i [] (b ∷ ms) p a h l = absurd h
   ready_here zero (q ∷ ps) (b ∷ ms) p a h l = h.0
   ready_here (suc i) (q ∷ ps) (b ∷ ms) p a h l = ready_here i ps ms p a h.1 (omega (arith, l))
 
-  pub ready_long : (ps : List Peer) (ms : List Sketch) → AreReady own D ps ms → length ms ≡ length ps
+  pub ready_long : (ps : List Peer) (ms : List SideDraft) → AreReady own D ps ms → length ms ≡ length ps
   ready_long [] [] h = refl
   ready_long [] (a ∷ ms) h = absurd h
   ready_long (p ∷ ps) [] h = absurd h
@@ -192,7 +192,7 @@ get_same (p ∷ ps) zero d e l = refl
 get_same (p ∷ ps) (suc i) d e l = get_same ps i d e (omega (arith, l))
 
 -- a draft of all keeps histories fresh
-pub whole_keeps : SessionsKeepFresh → (w : Whole) (own : Message) (s : Side) → IsFresh s → (draft_by w own s).overflows ≡ false → KeepsFresh s NoMessage (draft_by w own s)
+pub whole_keeps : SessionsKeepFresh → (w : ToAll) (own : Message) (s : Side) → IsFresh s → (draft_by w own s).overflows ≡ false → KeepsFresh s NoMessage (draft_by w own s)
 whole_keeps law whole.Second own s f o = (law own s f).second o
 whole_keeps law whole.Stop own s f o = (law own s f).stop
 

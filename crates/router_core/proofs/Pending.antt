@@ -8,13 +8,13 @@ use Rattle.prefix_lanes.specs.Bits.{PrefixView}
 use Rattle.ranked_policy.specs.declared.network.Origin.{Origin}
 use Rattle.ranked_policy.specs.Plans.{Plan, IsNamed, numbers}
 use Rattle.rib_tables.specs.Least.{HoldsOfAll}
-use Rattle.rib_tables.specs.Owners.{IsSettled, IsServed, IsAwaited, AllServed, IsPending}
+use Rattle.rib_tables.specs.Owners.{IsSettled, IsServed, HasWaitingPeer, AllServed, IsPending}
 use Rattle.rib_tables.specs.Promises.{BestOverWords}
 use Rattle.stable_paths.specs.Promises.{OneBest}
 use Rattle.router_model.specs.Settings.{Setting, linked, peers, prefixes}
 use Rattle.router_model.specs.Laws.{LinkedRoutersArePeers}
 use Rattle.router_model.specs.Sides.{is_up}
-use Rattle.router_model.specs.State.{Router, is_undecided, is_untold, is_waiting_peer, is_pending}
+use Rattle.router_model.specs.State.{Router, is_undecided, is_unadvertised, is_waiting_peer, is_pending}
 use Rattle.router_core.specs.Views.{RouterView, sides_of, plain_of}
 use Rattle.router_core.proofs.Leasts.{named_here, named_further}
 use Rattle.router_core.proofs.Awaiting.{served_decides, down_served, link_is}
@@ -83,7 +83,7 @@ module _ (over : BestOverWords) (one : OneBest) (law : LinkedRoutersArePeers) (g
       → is_waiting_peer g x.number r v ≡ true
   waits_by v l q n fails true up =
       let d = served_decides g x c.sound c.net v l up q n in
-      rw up (in_prefixes (is_untold g x.number r v) true (any_named (is_untold g x.number r v) x.net.origins q n.0 n.1 n.2 n.3 n.4 (not_same _ (λ t. fails (d.0 t)))))
+      rw up (in_prefixes (is_unadvertised g x.number r v) true (any_named (is_unadvertised g x.number r v) x.net.origins q n.0 n.1 n.2 n.3 n.4 (not_same _ (λ t. fails (d.0 t)))))
   waits_by v l q n fails false down = absurd (fails (down_served g x c.sound c.net v l down q))
 
   some_waits : (v : ℕ) → linked x.net x.number v ≡ true → (q : PrefixView) → IsNamed x.net.origins q → (IsServed x.tables v q → ⊥) → list_any (is_waiting_peer g x.number r) (peers g.net x.number) ≡ true
@@ -91,7 +91,7 @@ module _ (over : BestOverWords) (one : OneBest) (law : LinkedRoutersArePeers) (g
       in_peers (is_waiting_peer g x.number r) true
       (any_number (is_waiting_peer g x.number r) (peers x.net x.number) v (let a = law x.net c.sound.network x.number v l in a.peer) (waits_by v l q n fails (is_up (sides_of x v)) refl))
 
-  awaited_by : (a : IsAwaited x.tables) → (b : Bool) → linked x.net x.number a.peer ≡ b → list_any (is_waiting_peer g x.number r) (peers g.net x.number) ≡ true
+  awaited_by : (a : HasWaitingPeer x.tables) → (b : Bool) → linked x.net x.number a.peer ≡ b → list_any (is_waiting_peer g x.number r) (peers g.net x.number) ≡ true
   awaited_by a true l = some_waits a.peer l a.prefix (named a.prefix a.is_named) a.waits
   awaited_by a false l = absurd (a.waits (λ k. absurd (let t = link_is g x c.sound c.net a.peer (c.linked a.peer k) in let both = sym l ∙ t in cc)))
 
@@ -101,8 +101,8 @@ module _ (over : BestOverWords) (one : OneBest) (law : LinkedRoutersArePeers) (g
 
   served_by : AllServed x.tables → (v : ℕ) → linked x.net x.number v ≡ true → (b : Bool) → is_up (sides_of x v) ≡ b → is_waiting_peer g x.number r v ≡ false
   served_by all v l true up =
-      rw up (in_prefixes (is_untold g x.number r v) false
-      (none_named (is_untold g x.number r v) x.net.origins (λ q n. let d = served_decides g x c.sound c.net v l up q n in same_not _ (d.1 (all v q (named_back q n))))))
+      rw up (in_prefixes (is_unadvertised g x.number r v) false
+      (none_named (is_unadvertised g x.number r v) x.net.origins (λ q n. let d = served_decides g x c.sound c.net v l up q n in same_not _ (d.1 (all v q (named_back q n))))))
   served_by all v l false down = rw down refl
 
   quiet : HoldsOfAll x.tables.net.origins (IsSettled x.tables) → AllServed x.tables → is_pending g x.number r ≡ false

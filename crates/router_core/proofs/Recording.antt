@@ -11,10 +11,10 @@ use Rattle.ranked_policy.specs.Plans.{Plan, IsNetwork, IsNamed, numbers}
 use Rattle.rib_tables.specs.Words.{lists}
 use Rattle.rib_tables.specs.Tables.{Paths, path_of}
 use Rattle.snap_marker.specs.declared.part.Channel.{Channel}
-use Rattle.snap_marker.specs.Parts.{Seen, seen, peers_of, epoch_in, channel_in, waits_in, kept_in, originated_in, messages}
+use Rattle.snap_marker.specs.Parts.{Seen, seen, peers_of, epoch_in, channel_in, waits_for_marker, kept_in, originated_in, messages}
 use Rattle.router_model.specs.Settings.{names, linked, peers}
 use Rattle.router_model.specs.Sides.{Side, marked, is_up}
-use Rattle.router_model.specs.Step.{awaits}
+use Rattle.router_model.specs.Step.{awaits_marker}
 use Rattle.router_side.specs.SideOf.{side}
 use Rattle.router_core.specs.declared.peers.Peer.{Peer}
 use Rattle.router_core.specs.Views.{side_at, listed}
@@ -81,7 +81,7 @@ rest_seen : (x y : Seen) (xs ys : List Seen) → (x ∷ xs) ≡ (y ∷ ys) → x
 rest_seen x y xs ys h = ap (drop 1) h
 
 abbrev as_seen : Option ℕ → Peer → Seen
-as_seen first p = record { peer = p.number; epoch = (side p.end).link.epoch; is_open = awaits first p.number; updates = [] }
+as_seen first p = record { peer = p.number; epoch = (side p.end).link.epoch; is_open = awaits_marker first p.number; updates = [] }
 
 pub peers_as : (first : Option ℕ) (cs : List Channel) (ps : List Peer) → map seen cs ≡ channels_of first ps → peers_of cs ≡ map (λ p. p.number) ps
 peers_as first [] [] h = refl
@@ -114,7 +114,7 @@ epochs_as none first (c ∷ cs) (p ∷ ps) z h v =
     epoch_here true t e x r = rw e x
     epoch_here false t e x r = rw e r
 
-pub waits_as : (first : Option ℕ) (cs : List Channel) (ps : List Peer) → map seen cs ≡ channels_of first ps → (v : ℕ) → (listed v ps ≡ false → awaits first v ≡ true) → waits_in cs v ≡ awaits first v
+pub waits_as : (first : Option ℕ) (cs : List Channel) (ps : List Peer) → map seen cs ≡ channels_of first ps → (v : ℕ) → (listed v ps ≡ false → awaits_marker first v ≡ true) → waits_for_marker cs v ≡ awaits_marker first v
 waits_as first [] [] h v k = sym (k refl)
 waits_as first [] (p ∷ ps) h v k = absurd cc
 waits_as first (c ∷ cs) [] h v k = absurd cc
@@ -124,8 +124,8 @@ waits_as first (c ∷ cs) (p ∷ ps) h v k =
     waits_here (p.number == v) (v == c.peer) refl test (ap (λ (s : Seen). s.is_open) one)
     (λ f. waits_as first cs ps (rest_seen (seen c) (as_seen first p) (map seen cs) (channels_of first ps) h) v (λ l. k (rw f l)))
   where
-    waits_here : (b t : Bool) → (p.number == v) ≡ b → t ≡ b → c.is_open ≡ awaits first p.number → (b ≡ false → waits_in cs v ≡ awaits first v) → cond t c.is_open (waits_in cs v) ≡ awaits first v
-    waits_here true t n e x r = rw e (x ∙ ap (awaits first) (eqb-true p.number v n))
+    waits_here : (b t : Bool) → (p.number == v) ≡ b → t ≡ b → c.is_open ≡ awaits_marker first p.number → (b ≡ false → waits_for_marker cs v ≡ awaits_marker first v) → cond t c.is_open (waits_for_marker cs v) ≡ awaits_marker first v
+    waits_here true t n e x r = rw e (x ∙ ap (awaits_marker first) (eqb-true p.number v n))
     waits_here false t n e x r = rw e (r refl)
 
 pub channels_as : (first : Option ℕ) (cs : List Channel) (ps : List Peer) → map seen cs ≡ channels_of first ps → (v : ℕ) → channel_in cs v ≡ []

@@ -12,7 +12,7 @@ use Rattle.router_model.specs.declared.refusal.RouterError.{RouterError}
 use Rattle.router_model.specs.declared.refusal.RouterError.TheVariants as error
 use Rattle.router_model.specs.declared.refusal.Stepped.{Stepped}
 use Rattle.router_model.specs.declared.refusal.Stepped.TheVariants as stepped
-use Rattle.router_model.specs.Sides.{Side, AtHand, Draft, carried, at_hand, front, without_front, handled}
+use Rattle.router_model.specs.Sides.{Side, AtHand, Draft, carried, at_hand, front, without_front, draft_message}
 use Rattle.router_side.specs.SideOf.{side, put_next}
 use Rattle.router_model.specs.State.{open_of, rule_of}
 use Rattle.rib_tables.specs.Owners.{RibView}
@@ -98,14 +98,14 @@ module _ (g : Setting) (r : RouterView) (v i : ℕ) (p : Peer) (of : IsOf g r) (
   hands_refused y same h late = hand_is (Err error.Memory) y true false h late (refl, same)
 
   pub hands_front : (q : Peer) (c : Changes r v i p q) (t : RibView) (m : MarkView) (h : AtHand) (a : Draft) → h ≡ at_hand (front (rule_of r.net r.number v) (side p.end).held)
-      → a ≡ handled r.own_open (front (rule_of r.net r.number v) (side p.end).held) (side p.end) → side q.end ≡ carried h (without_front (side p.end)) a → Leaves r.tables t v
+      → a ≡ draft_message r.own_open (front (rule_of r.net r.number v) (side p.end).held) (side p.end) → side q.end ≡ carried h (without_front (side p.end)) a → Leaves r.tables t v
       → snapshots_of m ≡ seen a.acts h v (closed (close_at v a.left) (snapshots_of r.marks)) → is_waiting (side p.end).held ≡ true → nat_lt GREATEST_STAMP (r.stamp + 1) ≡ false
       → Gives g r.number (Ok stepped.Did) (answer g r.number (plain_of r) (Handle v)) (plain_of r) (Handle v) (plain_of (with_peer r i q t m (r.stamp + 1)))
   hands_front q c t m h a eh ea is l x w late =
       let n = front (rule_of g.net r.number v) (sides_of r v).held in
-      let b = handled (open_of g.net r.number) n (sides_of r v) in
+      let b = draft_message (open_of g.net r.number) n (sides_of r v) in
       let same : a ≡ b =
-      drafted g r v i p (λ o s. handled o (front (rule_of g.net r.number v) s.held) s) a of at here (ea ∙ ap (λ (k : Rule). handled r.own_open (front k (side p.end).held) (side p.end)) (sym (of.rule v))) in
+      drafted g r v i p (λ o s. draft_message o (front (rule_of g.net r.number v) s.held) s) a of at here (ea ∙ ap (λ (k : Rule). draft_message r.own_open (front k (side p.end).held) (side p.end)) (sym (of.rule v))) in
       let hand : h ≡ at_hand n = eh ∙ ap (λ (k : Rule). at_hand (front k (side p.end).held)) (sym (of.rule v)) ∙ ap (λ (s : Side). at_hand (front (rule_of g.net r.number v) s.held)) (sym stands) in
       let done = fronts r v i p q c t m (r.stamp + 1) h a is l x in
       hand_is (Ok stepped.Did) (plain_of (with_peer r i q t m (r.stamp + 1))) true false w late (

@@ -10,14 +10,14 @@ use Rattle.ranked_policy.specs.Plans.{Plan}
 use Rattle.rib_tables.specs.Promises.{BestOverWords}
 use Rattle.stable_paths.specs.Promises.{OneBest}
 use Rattle.snap_marker.specs.declared.part.Part.{Part}
-use Rattle.snap_marker.specs.Parts.{MarkView, snapshots_of, peers_of, epoch_in, channel_in, waits_in, kept_in, originated_in, part_of, IsOver, AreOf}
+use Rattle.snap_marker.specs.Parts.{MarkView, snapshots_of, peers_of, epoch_in, channel_in, waits_for_marker, kept_in, originated_in, part_of, IsOver, AreOf}
 use Rattle.snap_marker.specs.Parts as parts
 use Rattle.snap_marker.specs.Recordings.{RouterPart, Recording, Snapshots, begun_at, begun}
 use Rattle.router_model.specs.Laws.{LinkedRoutersArePeers}
 use Rattle.router_model.specs.Settings.{Setting, linked, peers}
 use Rattle.router_model.specs.Sides.{Side, marked, is_up}
 use Rattle.router_model.specs.State.{Router, is_pending}
-use Rattle.router_model.specs.Step.{awaits, recorded_part, recording_of, records}
+use Rattle.router_model.specs.Step.{awaits_marker, recorded_part, recording_of, records}
 use Rattle.run_model.specs.declared.stamps.TheConstants.{GREATEST_STAMP}
 use Rattle.router_side.specs.SideOf.{side_opening}
 use Rattle.router_core.specs.declared.peers.Peer.{Peer}
@@ -157,7 +157,7 @@ module _ (over : BestOverWords) (one : OneBest) (law : LinkedRoutersArePeers) (g
       ∙ ap (λ (a : ℕ → List Message). record (part_of p) { kept = x.kept; originated = x.originated; incarnation = λ (v : ℕ). (x.sides v).link.epoch; pending = is_pending g r.number x; channel = a }) channels_same
 
   -- what is no peer is not first
-  not_first : (o : Option ℕ) → IsPeer r.peers o → (v : ℕ) → listed v r.peers ≡ false → awaits o v ≡ true
+  not_first : (o : Option ℕ) → IsPeer r.peers o → (v : ℕ) → listed v r.peers ≡ false → awaits_marker o v ≡ true
   not_first None h v f = refl
   not_first (Some w) h v f = by_test (v == w) refl
     where
@@ -165,7 +165,7 @@ module _ (over : BestOverWords) (one : OneBest) (law : LinkedRoutersArePeers) (g
       by_test true e = (let both = sym f ∙ ap (λ (n : ℕ). listed n r.peers) (eqb-true v w e) ∙ h in absurd cc)
       by_test false e = refl
 
-  waits_same : waits_in p.channels.items ≡ awaits first
+  waits_same : waits_for_marker p.channels.items ≡ awaits_marker first
   waits_same = fun_ext (λ v. waits_as first p.channels.items r.peers k.channels v (not_first first is_peer v))
 
   pub recording_same : parts.recording_of p ≡ recording_of g r.number x s first

@@ -19,7 +19,7 @@ use Rattle.router_model.specs.declared.refusal.RouterError.{RouterError}
 use Rattle.router_model.specs.declared.refusal.RouterError.TheVariants as error
 use Rattle.router_model.specs.declared.refusal.Stepped.{Stepped}
 use Rattle.router_model.specs.declared.refusal.Stepped.TheVariants as stepped
-use Rattle.router_model.specs.Sides.{Side, Draft, NoMessage, signed, fed, uses, answers, comes, obeys, draft_of}
+use Rattle.router_model.specs.Sides.{Side, Draft, NoMessage, draft_sign, fed, uses, react_to_sign, react, apply, draft_of}
 use Rattle.router_side.specs.SideOf.{side}
 use Rattle.router_model.specs.State.{open_of}
 use Rattle.router_model.specs.Step.{moved, taken}
@@ -33,8 +33,8 @@ use Rattle.router_core.proofs.Carrying.{Changes, IsOf, with_peer, becomes, one_s
 
 -- ---- a Shut dials nothing
 
-closed_fits : (o : Message) (x : SessionView) (l : LinkView) (c : State) (h : Phase) → x.state ≡ c → l.phase ≡ h → (comes o NoMessage (draft_of x l) event.TcpConnectionFails).overflows ≡ false
-unfolding comes obeys
+closed_fits : (o : Message) (x : SessionView) (l : LinkView) (c : State) (h : Phase) → x.state ≡ c → l.phase ≡ h → (react o NoMessage (draft_of x l) event.TcpConnectionFails).overflows ≡ false
+unfolding react apply
 closed_fits o x l Idle h e p = rw e refl
 closed_fits o x l Connect Shut e p = rw (e, p) refl
 closed_fits o x l Connect Offered e p = rw (e, p) refl
@@ -52,14 +52,14 @@ closed_fits o x l Established Shut e p = rw (e, p) refl
 closed_fits o x l Established Offered e p = rw (e, p) refl
 closed_fits o x l Established Joined e p = rw (e, p) refl
 
-shut_by : (o : Message) (x : SessionView) (l : LinkView) (h : Phase) (b : Bool) → (answers o (draft_of x l) (meaning_of_shut h b)).overflows ≡ false
-unfolding answers
+shut_by : (o : Message) (x : SessionView) (l : LinkView) (h : Phase) (b : Bool) → (react_to_sign o (draft_of x l) (meaning_of_shut h b)).overflows ≡ false
+unfolding react_to_sign
 shut_by o x l Shut b = refl
 shut_by o x l Offered b = refl
 shut_by o x l Joined true = closed_fits o x l x.state l.phase refl refl
 shut_by o x l Joined false = refl
 
-pub shut_fits : (o : Message) (s : Side) (e : ℕ) → (signed o s (sign.Shut e)).overflows ≡ false
+pub shut_fits : (o : Message) (s : Side) (e : ℕ) → (draft_sign o s (sign.Shut e)).overflows ≡ false
 shut_fits o s e = shut_by o s.session (heard_by s.link (sign.Shut e)) s.link.phase ((e == s.link.heard) && (e == s.link.epoch))
 
 -- ---- octets
@@ -98,21 +98,21 @@ module _ (g : Setting) (r : RouterView) (v i : ℕ) (p : Peer) (of : IsOf g r) (
   takes_held what h = take_is what (Err (error.Held v)) (plain_of r) true h (refl, refl)
 
   module _ (y : Stamped) (a : Draft) (res : Result Stepped RouterError) (e : ℕ) (free : is_waiting (side p.end).held ≡ false) where
-    pub takes_dial : a ≡ signed r.own_open (side p.end) (sign.Dial e)
+    pub takes_dial : a ≡ draft_sign r.own_open (side p.end) (sign.Dial e)
         → Ends (nat_lt GREATEST_STAMP next) a.overflows res (plain_of r) (record { router = moved (plain_of r).router v NoMessage a; stamp = next }) y
         → Gives g r.number res (answer g r.number (plain_of r) (Take v stamp (item.Dial e))) (plain_of r) (Take v stamp (item.Dial e)) y
     takes_dial made ends =
         take_is (item.Dial e) res y false free
-        (one_step g r y v NoMessage a (signed (open_of g.net r.number) (sides_of r v) (sign.Dial e)) next (Take v stamp (item.Dial e)) (takes v (item.Dial e)) res (λ w. w.overflows)
-        (drafted g r v i p (λ o s. signed o s (sign.Dial e)) a of at here made) refl ends)
+        (one_step g r y v NoMessage a (draft_sign (open_of g.net r.number) (sides_of r v) (sign.Dial e)) next (Take v stamp (item.Dial e)) (takes v (item.Dial e)) res (λ w. w.overflows)
+        (drafted g r v i p (λ o s. draft_sign o s (sign.Dial e)) a of at here made) refl ends)
 
-    pub takes_shut : a ≡ signed r.own_open (side p.end) (sign.Shut e)
+    pub takes_shut : a ≡ draft_sign r.own_open (side p.end) (sign.Shut e)
         → Ends (nat_lt GREATEST_STAMP next) false res (plain_of r) (record { router = moved (plain_of r).router v NoMessage a; stamp = next }) y
         → Gives g r.number res (answer g r.number (plain_of r) (Take v stamp (item.Shut e))) (plain_of r) (Take v stamp (item.Shut e)) y
     takes_shut made ends =
         take_is (item.Shut e) res y false free
-        (one_step g r y v NoMessage a (signed (open_of g.net r.number) (sides_of r v) (sign.Shut e)) next (Take v stamp (item.Shut e)) (takes v (item.Shut e)) res (λ w. false)
-        (drafted g r v i p (λ o s. signed o s (sign.Shut e)) a of at here made) refl ends)
+        (one_step g r y v NoMessage a (draft_sign (open_of g.net r.number) (sides_of r v) (sign.Shut e)) next (Take v stamp (item.Shut e)) (takes v (item.Shut e)) res (λ w. false)
+        (drafted g r v i p (λ o s. draft_sign o s (sign.Shut e)) a of at here made) refl ends)
 
   late_is : (what : What) (res : Result Stepped RouterError) (y : Stamped) (late : Bool) → is_waiting (side p.end).held ≡ false → nat_lt GREATEST_STAMP next ≡ late
       → Gives g r.number res (judged None (Some (takes v what)) late (overflows_at g r.number (plain_of r).router (Some (takes v what)))) (plain_of r) (Take v stamp what) y

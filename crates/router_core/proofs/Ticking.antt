@@ -25,7 +25,7 @@ use Rattle.router_model.specs.declared.refusal.RouterError.{RouterError}
 use Rattle.router_model.specs.declared.refusal.RouterError.TheVariants as error
 use Rattle.router_model.specs.declared.refusal.Stepped.{Stepped}
 use Rattle.router_model.specs.Settings.{Setting, linked, peers}
-use Rattle.router_model.specs.Sides.{Side, Draft, NoMessage, carried, met, second, comes, obeys, draft_of}
+use Rattle.router_model.specs.Sides.{Side, Draft, NoMessage, carried, draft_event, draft_second, react, apply, draft_of}
 use Rattle.router_model.specs.State.{open_of}
 use Rattle.router_model.specs.Step.{Obeys, Ticks, all_moved, forgetting, first_close}
 use Rattle.router_model.specs.Calls.{Stamped, Tick, Obey, Gives, answer, judged}
@@ -34,7 +34,7 @@ use Rattle.router_side.specs.SideOf.{side, side_opening}
 use Rattle.router_core.specs.declared.peers.Peer.{Peer}
 use Rattle.router_core.specs.Views.{RouterView, IsSound, IsTellable, IsPathWord, side_at, sides_of, config_of, plain_of, Ends}
 use Rattle.router_core.specs.Recorded.{Become}
-use Rattle.router_core.specs.Whole.{overflow_in, first_left, MovesAll}
+use Rattle.router_core.specs.ToAll.{overflow_in, first_left, MovesAll}
 use Rattle.router_core.proofs.Snapshots.{with_peers, same_alike, stays_sound, same_plain}
 use Rattle.router_core.proofs.Naming.{decides_lists}
 use Rattle.router_core.proofs.Following.{IsShort}
@@ -117,29 +117,29 @@ module _ (g : Setting) (r : RouterView) (e : g.net ≡ r.net) (s : IsSound r) wh
   own_same = s.own_open ∙ ap (λ (n : Plan). open_of n r.number) (sym e)
 
   abbrev pub ticked : Stamped
-  ticked = record { router = all_moved g r.number (plain_of r).router (λ v. second r.own_open (sides_of r v)); stamp = r.stamp + 1 }
+  ticked = record { router = all_moved g r.number (plain_of r).router (λ v. draft_second r.own_open (sides_of r v)); stamp = r.stamp + 1 }
 
-  overflow_same : overflow_in (second r.own_open) r.peers ≡ list_any (λ v. (second (open_of g.net r.number) (sides_of r v)).overflows) (peers g.net r.number)
+  overflow_same : overflow_in (draft_second r.own_open) r.peers ≡ list_any (λ v. (draft_second (open_of g.net r.number) (sides_of r v)).overflows) (peers g.net r.number)
   overflow_same =
-      overflow_is (second r.own_open) (side_opening (config_of r.net) r.net.settings.width) r.peers (rises r.net s.network r.number r.peers s.numbers)
-      ∙ ap (list_any (λ v. (second r.own_open (sides_of r v)).overflows)) (s.numbers ∙ ap (λ (n : Plan). peers n r.number) (sym e))
-      ∙ ap (λ (o : Message). list_any (λ v. (second o (sides_of r v)).overflows) (peers g.net r.number)) own_same
+      overflow_is (draft_second r.own_open) (side_opening (config_of r.net) r.net.settings.width) r.peers (rises r.net s.network r.number r.peers s.numbers)
+      ∙ ap (list_any (λ v. (draft_second r.own_open (sides_of r v)).overflows)) (s.numbers ∙ ap (λ (n : Plan). peers n r.number) (sym e))
+      ∙ ap (λ (o : Message). list_any (λ v. (draft_second o (sides_of r v)).overflows) (peers g.net r.number)) own_same
 
-  pub ticks : (res : Result Stepped RouterError) (y : Stamped) → Ends (nat_lt GREATEST_STAMP (r.stamp + 1)) (overflow_in (second r.own_open) r.peers) res (plain_of r) ticked y
+  pub ticks : (res : Result Stepped RouterError) (y : Stamped) → Ends (nat_lt GREATEST_STAMP (r.stamp + 1)) (overflow_in (draft_second r.own_open) r.peers) res (plain_of r) ticked y
       → Gives g r.number res (answer g r.number (plain_of r) Tick) (plain_of r) Tick y
   ticks res y h =
       subst (λ (o : Bool). Gives g r.number res (judged None (Some (alone Ticks)) (nat_lt GREATEST_STAMP (r.stamp + 1)) o) (plain_of r) Tick y) overflow_same
-      (ends_give g r.number (nat_lt GREATEST_STAMP (r.stamp + 1)) (overflow_in (second r.own_open) r.peers) res (plain_of r) y ticked Tick (alone Ticks)
-      (ap (λ (o : Message). record { router = all_moved g r.number (plain_of r).router (λ v. second o (sides_of r v)); stamp = r.stamp + 1 }) (sym own_same)) h)
+      (ends_give g r.number (nat_lt GREATEST_STAMP (r.stamp + 1)) (overflow_in (draft_second r.own_open) r.peers) res (plain_of r) y ticked Tick (alone Ticks)
+      (ap (λ (o : Message). record { router = all_moved g r.number (plain_of r).router (λ v. draft_second o (sides_of r v)); stamp = r.stamp + 1 }) (sym own_same)) h)
 
   abbrev pub restarted : Stamped
-  restarted = record { router = forgetting (all_moved g r.number (plain_of r).router (λ v. met r.own_open (sides_of r v) ManualStop)); stamp = r.stamp + 1 }
+  restarted = record { router = forgetting (all_moved g r.number (plain_of r).router (λ v. draft_event r.own_open (sides_of r v) ManualStop)); stamp = r.stamp + 1 }
 
   pub restarts : (res : Result Stepped RouterError) (y : Stamped) → Ends (nat_lt GREATEST_STAMP (r.stamp + 1)) false res (plain_of r) restarted y
       → Gives g r.number res (answer g r.number (plain_of r) (Obey Restart)) (plain_of r) (Obey Restart) y
   restarts res y h =
       ends_give g r.number (nat_lt GREATEST_STAMP (r.stamp + 1)) false res (plain_of r) y restarted (Obey Restart) (alone (Obeys Restart))
-      (ap (λ (o : Message). record { router = forgetting (all_moved g r.number (plain_of r).router (λ v. met o (sides_of r v) ManualStop)); stamp = r.stamp + 1 }) (sym own_same)) h
+      (ap (λ (o : Message). record { router = forgetting (all_moved g r.number (plain_of r).router (λ v. draft_event o (sides_of r v) ManualStop)); stamp = r.stamp + 1 }) (sym own_same)) h
 
 -- what is cleared keeps and originates nothing
 pub cleared : (x : RouterView) (t : RibView) (stamp : ℕ) → Clears x.tables t → plain_of (at_stamp x t stamp) ≡ record { router = forgetting (plain_of x).router; stamp = stamp }
@@ -151,8 +151,8 @@ cleared x t stamp c =
 
 -- ---- a stop dials nothing
 
-stop_by : (o : Message) (x : SessionView) (l : LinkView) (c : State) (h : Phase) → x.state ≡ c → l.phase ≡ h → (comes o NoMessage (draft_of x l) ManualStop).overflows ≡ false
-unfolding comes obeys
+stop_by : (o : Message) (x : SessionView) (l : LinkView) (c : State) (h : Phase) → x.state ≡ c → l.phase ≡ h → (react o NoMessage (draft_of x l) ManualStop).overflows ≡ false
+unfolding react apply
 stop_by o x l Idle h e p = rw e refl
 stop_by o x l Connect Shut e p = rw (e, p) refl
 stop_by o x l Connect Offered e p = rw (e, p) refl
@@ -170,7 +170,7 @@ stop_by o x l Established Shut e p = rw (e, p) refl
 stop_by o x l Established Offered e p = rw (e, p) refl
 stop_by o x l Established Joined e p = rw (e, p) refl
 
-pub stops_fit : (o : Message) (ps : List Peer) → overflow_in (λ s. met o s ManualStop) ps ≡ false
+pub stops_fit : (o : Message) (ps : List Peer) → overflow_in (λ s. draft_event o s ManualStop) ps ≡ false
 stops_fit o [] = refl
 stops_fit o (p ∷ ps) = rw (stop_by o (side p.end).session (side p.end).link (side p.end).session.state (side p.end).link.phase refl refl) (stops_fit o ps)
 

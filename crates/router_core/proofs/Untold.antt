@@ -7,7 +7,7 @@ use Rattle.ranked_policy.specs.declared.network.Origin.{Origin}
 use Rattle.ranked_policy.specs.Plans.{Plan, IsNamed, Linked}
 use Rattle.router_model.specs.Settings.{linked, prefixes}
 use Rattle.router_model.specs.Sides.{Side, is_up}
-use Rattle.router_model.specs.State.{is_untold}
+use Rattle.router_model.specs.State.{is_unadvertised}
 use Rattle.router_side.specs.SideOf.{side, side_opening}
 use Rattle.router_core.specs.declared.peers.Peer.{Peer}
 use Rattle.router_core.specs.Views.{RouterView, IsSound, IsAt, MayTell, config_of, sides_of, plain_of, unchosen}
@@ -37,12 +37,12 @@ module _ (x : RouterView) (sound : IsSound x) (i : ℕ) (q : PrefixView) (may : 
   pub below : i < length x.peers
   below = is_below x.peers may.peer i may.place
 
-  parts : (linked x.net x.number may.peer && is_up (sides_of x may.peer) ≡ true) × (find (is_untold (unchosen x.net) x.number (plain_of x).router may.peer) (prefixes (unchosen x.net)) ≡ Some q)
+  parts : (linked x.net x.number may.peer && is_up (sides_of x may.peer) ≡ true) × (find (is_unadvertised (unchosen x.net) x.number (plain_of x).router may.peer) (prefixes (unchosen x.net)) ≡ Some q)
   parts =
-      where_some (linked x.net x.number may.peer && is_up (sides_of x may.peer)) (find (is_untold (unchosen x.net) x.number (plain_of x).router may.peer) (prefixes (unchosen x.net))) q may.waits
+      where_some (linked x.net x.number may.peer && is_up (sides_of x may.peer)) (find (is_unadvertised (unchosen x.net) x.number (plain_of x).router may.peer) (prefixes (unchosen x.net))) q may.waits
 
   pub named : IsNamed x.net.origins q
-  named = found_named (is_untold (unchosen x.net) x.number (plain_of x).router may.peer) x.net.origins q parts.1
+  named = found_named (is_unadvertised (unchosen x.net) x.number (plain_of x).router may.peer) x.net.origins q parts.1
 
   pub named_there : IsNamed x.tables.net.origins q
   named_there = subst (λ (net : Plan). IsNamed net.origins q) (sym sound.tabled.net) named

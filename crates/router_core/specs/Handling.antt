@@ -9,7 +9,7 @@ use Rattle.rib_tables.specs.Owners.{RibView, HearsUpdate}
 use Rattle.snap_marker.specs.declared.part.Part.{Part}
 use Rattle.snap_marker.specs.Parts.{copy_for}
 use Rattle.snap_marker.specs.Recordings.{Snapshots, acted_on, closed}
-use Rattle.router_model.specs.Sides.{Side, AtHand, NoMessage, HasFault, HasUpdate, Draft, carried, at_hand, front, without_front, handled}
+use Rattle.router_model.specs.Sides.{Side, AtHand, NoMessage, HasFault, HasUpdate, Draft, carried, at_hand, front, without_front, draft_message}
 use Rattle.router_model.specs.Step.{close_at}
 use Rattle.router_core.specs.Following.{standing, Followed}
 
@@ -40,7 +40,7 @@ pub record HandlesFront (own_open : Message) (rule : Rule) (v : ℕ) (s z : Side
   pub draft : Draft
   pub between : RibView
   pub hand_is : hand ≡ at_hand (front rule s.held)
-  pub draft_is : draft ≡ handled own_open (front rule s.held) s
+  pub draft_is : draft ≡ draft_message own_open (front rule s.held) s
   pub side : z ≡ carried hand (without_front s) draft
   pub hears : Hears old between v (update_acted draft.acts hand)
   pub follows : Followed between new v (standing s) (standing z)

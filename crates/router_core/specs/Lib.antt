@@ -2,6 +2,6 @@ pub mod Views
 pub mod Following
 pub mod Handling
 pub mod Recorded
-pub mod Whole
+pub mod ToAll
 pub mod Calling
 pub mod Shown

@@ -15,7 +15,7 @@ use Rattle.router_model.specs.declared.refusal.Stepped.{Stepped}
 use Rattle.router_model.specs.declared.refusal.Stepped.TheVariants as stepped
 use Rattle.router_model.specs.Settings.{Setting, ChoosesByRank}
 use Rattle.router_model.specs.Sides.{Side, marked, is_up}
-use Rattle.router_model.specs.Step.{awaits, recorded_part, records}
+use Rattle.router_model.specs.Step.{awaits_marker, recorded_part, records}
 use Rattle.router_side.specs.SideOf.{side, HasRoomToMark}
 use Rattle.router_core.specs.declared.peers.Peer.{Peer}
 use Rattle.router_core.specs.Views.{RouterView, plain_of, listed}
@@ -30,7 +30,13 @@ own_of origins originated = filter (lists originated) (map (λ o. o.prefix) orig
 
 -- a channel for each peer, open but for the one whose marker came
 abbrev pub channels_of : Option ℕ → List Peer → List Seen
-channels_of first ps = map (λ p. record { peer = p.number; epoch = (side p.end).link.epoch; is_open = awaits first p.number; updates = [] }) ps
+channels_of first ps = map (λ p. record {
+  peer = p.number;
+  epoch = (side p.end).link.epoch;
+  is_open =
+      awaits_marker first p.number;
+  updates = [];
+}) ps
 
 -- the first peer whose session is not Established
 abbrev pub down_in : List Peer → Option ℕ

@@ -7,7 +7,7 @@ use Rattle.bgp_codec.specs.declared.message.Message.{Message}
 use Rattle.bgp_framing.specs.Held.{is_waiting}
 use Rattle.router_model.specs.Settings.{linked, peers}
 use Rattle.router_model.specs.Sides.{Side, front}
-use Rattle.router_model.specs.State.{untold}
+use Rattle.router_model.specs.State.{unadvertised}
 use Rattle.router_side.specs.SideOf.{naming}
 use Rattle.router_core.specs.Views.{RouterView, plain_of, sides_of, unchosen, has_room_at}
 
@@ -16,8 +16,8 @@ abbrev pub of_peer : {A : Type 0} → RouterView → ℕ → (Side → A) → Op
 of_peer x v says = cond (linked x.net x.number v) (Some (says (sides_of x v))) None
 
 -- a link leads to the peer, and a whole message or a fault of it waits to be handled
-abbrev pub awaits : RouterView → ℕ → Bool
-awaits x v = linked x.net x.number v && is_waiting (sides_of x v).held
+abbrev pub has_front : RouterView → ℕ → Bool
+has_front x v = linked x.net x.number v && is_waiting (sides_of x v).held
 
 -- the message or fault of a peer that stands in front, as this router reads it
 abbrev pub front_of : RouterView → ℕ → Result Message Fault
@@ -27,4 +27,5 @@ front_of x v = front (naming x.net.settings.width x.number v) (sides_of x v).hel
 abbrev pub IsToldNext : RouterView → Option (ℕ × PrefixView) → Type 0
 IsToldNext x None = find (has_room_at x) (peers x.net x.number) ≡ None
 IsToldNext x (Some told) =
-    (find (has_room_at x) (peers x.net x.number) ≡ Some told.0) × (untold (unchosen x.net) x.number (plain_of x).router told.0 ≡ Some told.1)
+    (find (has_room_at x) (peers x.net x.number) ≡ Some told.0)
+    × (unadvertised (unchosen x.net) x.number (plain_of x).router told.0 ≡ Some told.1)

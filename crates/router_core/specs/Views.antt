@@ -32,8 +32,8 @@ use Rattle.outbox.specs.declared.item.Item.{Item}
 use Rattle.outbox.specs.declared.item.What.TheVariants as item
 use Rattle.run_model.specs.Network.{alone, puts, takes, offers}
 use Rattle.link_epoch.specs.declared.link_end.Sign.{Sign}
-use Rattle.router_model.specs.Sides.{Side, AtHand, NoMessage, Draft, carried, signed, at_hand, front, without_front, handled, is_up, told}
-use Rattle.router_model.specs.State.{open_of, new_router, heard, last_told, telling, untold, is_waiting_peer}
+use Rattle.router_model.specs.Sides.{Side, AtHand, NoMessage, Draft, carried, draft_sign, at_hand, front, without_front, draft_message, is_up, told}
+use Rattle.router_model.specs.State.{open_of, new_router, heard, last_told, telling, unadvertised, is_waiting_peer}
 use Rattle.router_model.specs.Step.{moved, taken, next_offer, with_side}
 use Rattle.router_model.specs.Calls.{Stamped, Call, Put, Answer, Steps, Idle, Refuses, answer, Gives, has_room}
 use Rattle.run_model.specs.declared.stamps.TheConstants.{GREATEST_STAMP}
@@ -160,7 +160,8 @@ Opens net number x = (x.net ≡ net) × (x.number ≡ number) × ((g : Setting) 
 
 -- a side whose front, read under this rule, is handled
 abbrev pub handled_front : Message → Rule → Side → Side
-handled_front own_open rule s = carried (at_hand (front rule s.held)) (without_front s) (handled own_open (front rule s.held) s)
+handled_front own_open rule s = carried (at_hand (front rule s.held)) (without_front s) (draft_message own_open
+    (front rule s.held) s)
 
 -- what `next_item` has to answer, by what the call Put has to answer
 abbrev pub Shows : ℕ → Result (Option Item) RouterError → Answer → Type 0
@@ -192,7 +193,7 @@ Carries r x v h a overflows stamp y =
 -- a Dial or a Shut of a peer is taken at this stamp, or is refused
 abbrev pub TakesSign : Result Stepped RouterError → RouterView → ℕ → Sign → ℕ → RouterView → Type 0
 TakesSign r x v s stamp y =
-    let a = signed x.own_open (sides_of x v) s in
+    let a = draft_sign x.own_open (sides_of x v) s in
     Carries r x v NoMessage a a.overflows stamp y
 
 -- a marker of a peer is taken at this stamp, or memory is wanting
@@ -232,7 +233,7 @@ IsNamedAt net q place = slice_get (map (λ origin. origin.prefix) net.origins) p
 pub record MayTell (x : RouterView) (at : ℕ) (q : PrefixView) : Type 0 where
   pub peer : ℕ
   pub place : IsAt x.peers peer at
-  pub waits : untold (unchosen x.net) x.number (plain_of x).router peer ≡ Some q
+  pub waits : unadvertised (unchosen x.net) x.number (plain_of x).router peer ≡ Some q
 
 -- the first peer that waits and has room; if none has room, the first that waits
 abbrev pub IsNext : RouterView → Next → Type 0

@@ -10,12 +10,12 @@
 //! nor a path that is heard in Established while no snapshot is recorded.
 #![tactic(auto)]
 
-mod choices;
+mod best_path;
 mod opening;
+mod path_to_tell;
 mod peers;
 mod router;
 mod tables;
-mod telling;
 
 pub use opening::is_peer;
 pub use outbox::{Item, PieceOctets, What};

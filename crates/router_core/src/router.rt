@@ -8,19 +8,19 @@ ghost use Rattle.run_model.specs.declared.stamps.TheConstants.{GREATEST_STAMP};
 ghost use Rattle.router_core.specs.Views.{Opens, plain_of, listed, IsFound};
 ghost use Rattle.router_core.specs.Calling.{no_step};
 
-mod all;
 mod call;
 mod carry;
 mod choose;
 mod command;
 mod handle;
 mod history;
+mod idle;
 mod offer;
 mod put;
-mod quiet;
+mod readers;
 mod record;
-mod shown;
 mod take;
+mod to_all;
 
 use crate::opening::{new_peers, own_open};
 use crate::peers::{Peer, place_of};
@@ -74,7 +74,7 @@ fn next_stamp(last: u64) -> Result<u64, RouterError>
 }
 
 // The stamp behind this one, if one is left and the caller has room for the event.
-fn next_stamp_in(last: u64, room: Result<(), AllocError>) -> Result<u64, RouterError>
+fn next_stamp_with_room(last: u64, room: Result<(), AllocError>) -> Result<u64, RouterError>
     requires { last ≤ GREATEST_STAMP }
     ensures next { IfOk result (λ next. (next ≡ last + 1) × (nat_lt GREATEST_STAMP (last + 1) ≡ false)) }
     ensures room { OnOk result (IsOk room) }

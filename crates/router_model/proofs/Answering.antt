@@ -20,7 +20,7 @@ use Rattle.router_model.specs.declared.refusal.RouterError.{RouterError}
 use Rattle.router_model.specs.declared.refusal.RouterError.TheVariants as error
 use Rattle.router_model.specs.Sides.{is_up}
 use Rattle.router_model.specs.Settings.{Setting, linked, peers, is_origin, prefixes}
-use Rattle.router_model.specs.State.{Router, is_untold, undecided, is_waiting_peer}
+use Rattle.router_model.specs.State.{Router, is_unadvertised, undecided, is_waiting_peer}
 use Rattle.router_model.specs.Step.{Obeys, Ticks, Handles, Decides, Advertises, RouterEvent, HasSize, MayObey, May, overflows, is_greater}
 use Rattle.router_model.specs.Calls.{Call, Obey, Tick, Put, Take, Handle, Decide, Advertise, Steps, judged, unless, first_of, if_so, put_event, advertise_event, has_room, bars, bars_command, command_event, event_of, overflows_at, IsEventOf}
 use Rattle.router_model.specs.Laws.{AnswersAreSteps}
@@ -173,9 +173,9 @@ call_may g net u x Advertise e f h =
     let t = told_is (find (has_room g u x) (peers g.net u)) e h in
     let v = t.0 in
     let room = left_so (is_waiting_peer g u x v) _ (found (has_room g u x) (peers g.net u) v t.1) in
-    let up = waits_up (is_up (x.sides v)) (list_any (is_untold g u x v) (prefixes g)) room in
+    let up = waits_up (is_up (x.sides v)) (list_any (is_unadvertised g u x v) (prefixes g)) room in
     let near = found_kept (has_room g u x) (linked g.net u) (numbers g.net.routers) v t.1 in
-    ((v, t.2), subst (λ k. May g u x k) (sym t.2) (untold_some (linked g.net u v) (is_up (x.sides v)) (find (is_untold g u x v) (prefixes g)) near up.0 (any_found (is_untold g u x v) (prefixes g) up.1)))
+    ((v, t.2), subst (λ k. May g u x k) (sym t.2) (untold_some (linked g.net u v) (is_up (x.sides v)) (find (is_unadvertised g u x v) (prefixes g)) near up.0 (any_found (is_unadvertised g u x v) (prefixes g) up.1)))
 
 no_overflow : (g : Setting) (u : ℕ) (x : Router) (o : Option RouterEvent) (e : RouterEvent) → o ≡ Some e → overflows_at g u x o ≡ false → overflows g u x e ≡ false
 no_overflow g u x o e h f = subst (λ k. overflows_at g u x k ≡ false) h f

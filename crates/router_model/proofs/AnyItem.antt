@@ -19,7 +19,7 @@ use Rattle.outbox.specs.declared.item.What.{What}
 use Rattle.outbox.specs.declared.item.What.TheVariants as item
 use Rattle.router_model.specs.Settings.{Setting}
 use Rattle.router_model.specs.Sides as sides
-use Rattle.router_model.specs.Sides.{Side, Draft, draft_of, AtHand, NoMessage, HasFault, HasUpdate, does, obeys, obeys_all, comes, dials, shuts, fits, is_connecting, signed}
+use Rattle.router_model.specs.Sides.{Side, Draft, draft_of, AtHand, NoMessage, HasFault, HasUpdate, apply_once, apply, apply_all, react, dials, shuts, fits, is_connecting, draft_sign}
 use Rattle.router_model.specs.State.{open_of}
 use Rattle.router_model.specs.Step.{overflows_taking}
 use Rattle.router_model.specs.Calls.{Stamped}
@@ -38,21 +38,21 @@ shut : (a : Draft) (o : Option ℕ) → (shuts a o).overflows ≡ a.overflows
 shut a None = refl
 shut a (Some number) = refl
 
-obeyed : (o : Message) (g : AtHand) (a : Draft) (xs : List Action) → NoDial xs → (obeys_all o g a xs).overflows ≡ a.overflows
-unfolding obeys
+obeyed : (o : Message) (g : AtHand) (a : Draft) (xs : List Action) → NoDial xs → (apply_all o g a xs).overflows ≡ a.overflows
+unfolding apply
 obeyed o g a [] h = refl
 obeyed o g a (action.Dial ∷ xs) h = absurd h
-obeyed o g a (action.SendOpen ∷ xs) h = obeyed o g (does o g a action.SendOpen) xs h
-obeyed o g a (action.SendAlive ∷ xs) h = obeyed o g (does o g a action.SendAlive) xs h
-obeyed o g a (action.SendNotice code ∷ xs) h = obeyed o g (does o g a (action.SendNotice code)) xs h
-obeyed o g a (action.SendGiven ∷ xs) h = obeyed o g (does o g a action.SendGiven) xs h ∙ given g a
-obeyed o g a (action.HangUp ∷ xs) h = obeyed o g (does o g a action.HangUp) xs h ∙ shut a (number_shut a.link)
-obeyed o g a (action.Act ∷ xs) h = obeyed o g (does o g a action.Act) xs h
-obeyed o g a (action.Up ∷ xs) h = obeyed o g (does o g a action.Up) xs h
-obeyed o g a (action.Down ∷ xs) h = obeyed o g (does o g a action.Down) xs h
+obeyed o g a (action.SendOpen ∷ xs) h = obeyed o g (apply_once o g a action.SendOpen) xs h
+obeyed o g a (action.SendAlive ∷ xs) h = obeyed o g (apply_once o g a action.SendAlive) xs h
+obeyed o g a (action.SendNotice code ∷ xs) h = obeyed o g (apply_once o g a (action.SendNotice code)) xs h
+obeyed o g a (action.SendGiven ∷ xs) h = obeyed o g (apply_once o g a action.SendGiven) xs h ∙ given g a
+obeyed o g a (action.HangUp ∷ xs) h = obeyed o g (apply_once o g a action.HangUp) xs h ∙ shut a (number_shut a.link)
+obeyed o g a (action.Act ∷ xs) h = obeyed o g (apply_once o g a action.Act) xs h
+obeyed o g a (action.Up ∷ xs) h = obeyed o g (apply_once o g a action.Up) xs h
+obeyed o g a (action.Down ∷ xs) h = obeyed o g (apply_once o g a action.Down) xs h
 
-came : (o : Message) (g : AtHand) (a : Draft) (e : FsmEvent) → NoDial (on_event a.session e).actions → (comes o g a e).overflows ≡ a.overflows
-unfolding comes
+came : (o : Message) (g : AtHand) (a : Draft) (e : FsmEvent) → NoDial (on_event a.session e).actions → (react o g a e).overflows ≡ a.overflows
+unfolding react
 came o g a e h = obeyed o g (record a { session = (on_event a.session e).session }) (on_event a.session e).actions h
 
 -- ---- no sign of the peer makes the session dial by itself
@@ -83,13 +83,13 @@ Answerable link heard.Joined = Unit {0}
 Answerable link (heard.Offered number) = fits (next_number link) ≡ true
 Answerable link heard.Closed = Unit {0}
 
-answered : (o : Message) (a : Draft) (x : Heard) → Answerable a.link x → (sides.answers o a x).overflows ≡ a.overflows
-unfolding sides.answers Answerable
+answered : (o : Message) (a : Draft) (x : Heard) → Answerable a.link x → (sides.react_to_sign o a x).overflows ≡ a.overflows
+unfolding sides.react_to_sign Answerable
 answered o a heard.Quiet h = refl
 answered o a heard.Joined h = came o NoMessage a event.TcpCrAcked (acked a.session.state a.session refl)
 answered o a (heard.Offered number) h =
     let d : (dials a).overflows ≡ a.overflows = dial_fits a (fits (next_number a.link)) refl h in
-    either (is_connecting a.session.state) (comes o NoMessage (dials a) event.TcpConnectionConfirmed) a a.overflows
+    either (is_connecting a.session.state) (react o NoMessage (dials a) event.TcpConnectionConfirmed) a a.overflows
     (came o NoMessage (dials a) event.TcpConnectionConfirmed (confirmed (dials a).session.state (dials a).session refl) ∙ d) refl
 answered o a heard.Closed h = came o NoMessage a event.TcpConnectionFails (failed a.session.state a.session refl)
 
@@ -108,7 +108,7 @@ offer_fits link e fit = at (nat_lt link.heard e) (nat_lt link.epoch e) link.phas
     at true false phase.Offered false ha hb hp ho = rw (ha, hp, ho, hb) tt
     at true b phase.Joined o ha hb hp ho = rw (ha, hp) tt
 
-dial_taken : (o : Message) (s : Side) (e : ℕ) → fits e ≡ true → (signed o s (sign.Dial e)).overflows ≡ false
+dial_taken : (o : Message) (s : Side) (e : ℕ) → fits e ≡ true → (draft_sign o s (sign.Dial e)).overflows ≡ false
 dial_taken o s e fit = answered o (draft_of s.session (heard_by s.link (sign.Dial e))) (meaning_of s.link (sign.Dial e)) (offer_fits s.link e fit)
 
 taken_fits : (g : Setting) (u v : ℕ) (x : Stamped) (i : What) → HasNumbers i → overflows_taking g u x.router v i ≡ false

@@ -22,7 +22,7 @@ use Rattle.outbox.specs.declared.item.What.{What}
 use Rattle.outbox.specs.declared.item.What.TheVariants as item
 use Rattle.router_model.specs.Sides.{Side, Draft, AtHand, NoMessage, at_hand, front, carried, marked, told, uses, is_up, without_front}
 use Rattle.router_model.specs.Settings.{Setting, linked, peers}
-use Rattle.router_model.specs.State.{Router, rule_of, untold, undecided, route}
+use Rattle.router_model.specs.State.{Router, rule_of, unadvertised, undecided, best_path}
 use Rattle.router_model.specs.Step.{RouterEvent, Obeys, Ticks, Handles, Decides, Advertises, May, after, says, says_by, says_where, says_update, says_of_taken, says_markers, obeyed, taken, telling_to, telling_of, heeds, is_greater, put_from, keeping, records, meets_at, resets_at, signed_at, second_at, handled_at}
 use Rattle.snap_marker.specs.Recordings.{ends_channel}
 use Rattle.router_model.specs.Laws.{all_passes, StepsAppendWhatTheySay}
@@ -117,8 +117,8 @@ by_event : (g : Setting) (u v : ℕ) (x : Router) (e : RouterEvent) → May g u 
 by_event g u v x (alone (Obeys c)) may = by_command g u v x c
 by_event g u v x (alone Ticks) may = one (linked g.net u v) NoMessage (x.sides v) (second_at g u x v)
 by_event g u v x (alone (Handles w)) may = behind_front (v == w) (at_hand (front (rule_of g.net u w) (x.sides w).held)) (x.sides v) (without_front (x.sides v)) (handled_at g u x w) refl refl
-by_event g u v x (alone Decides) may = keeps_sides x (undecided g u x) (route g u x) v
-by_event g u v x (alone (Advertises w)) may = by_telling g u v w x (untold g u x w)
+by_event g u v x (alone Decides) may = keeps_sides x (undecided g u x) (best_path g u x) v
+by_event g u v x (alone (Advertises w)) may = by_telling g u v w x (unadvertised g u x w)
 by_event g u v x (puts w i) may =
     subst (λ b. all_passes (if b then i ∷ [] else []) ++ (cond (v == w) (put_from (x.sides v) i) (x.sides v)).outbox ≡ (x.sides v).outbox ++ [])
     (swapped v w) (put_at (v == w) v w i x refl may.2)

@@ -21,7 +21,7 @@ use Rattle.snap_marker.specs.Recordings.{Snapshots, ends_channel}
 use Rattle.router_model.specs.declared.command.Command.TheVariants as command
 use Rattle.router_model.specs.Settings.{Setting, linked, peers}
 use Rattle.router_model.specs.Sides.{Side, Draft, AtHand, NoMessage, at_hand, front, carried, marked, told, uses, is_up, without_front}
-use Rattle.router_model.specs.State.{Router, rule_of, untold, undecided, route}
+use Rattle.router_model.specs.State.{Router, rule_of, unadvertised, undecided, best_path}
 use Rattle.router_model.specs.Step.{RouterEvent, Obeys, Ticks, Handles, Decides, Advertises, May, Step, after, overflows, says, says_where, says_update, says_markers, moved, all_moved, with_side, telling_to, telling_of, heeds, is_greater, put_from, keeping, records, meets_at, resets_at, signed_at, second_at, handled_at}
 use Rattle.router_model.specs.Laws.{RouterPutsCommute, PutsLeaveWhatIsSaid}
 
@@ -139,8 +139,8 @@ module _ (g : Setting) (u : ℕ) (x : Router) where
       ap (λ (r : Router). record r { kept = λ q. []; originated = λ q. false }) (all_moved_with o (λ v. meets_at g u x v ManualStop))
   after_with (alone Ticks) o = all_moved_with o (second_at g u x)
   after_with (alone (Handles v)) o = handled_with o v (at_hand (front (rule_of g.net u v) (x.sides v).held)) (handled_at g u x v)
-  after_with (alone Decides) o = keeping_with o (undecided g u x) (route g u x)
-  after_with (alone (Advertises w)) o = telling_with o w (untold g u x w)
+  after_with (alone Decides) o = keeping_with o (undecided g u x) (best_path g u x)
+  after_with (alone (Advertises w)) o = telling_with o w (unadvertised g u x w)
   after_with (puts w j) o = same_sides x _ _ (λ y. put_one (y == w) (x.sides y) (o y) j)
   after_with (takes w (item.Dial e)) o = moved_with o w NoMessage (signed_at g u x w (sign.Dial e))
   after_with (takes w (item.Piece e octets)) o = same_sides x _ _ (λ y. feed_one (y == w) (uses (x.sides y).link e) (x.sides y) (o y) octets)
@@ -161,7 +161,7 @@ module _ (g : Setting) (u : ℕ) (x : Router) where
   said_with (alone Ticks) o w = refl
   said_with (alone (Handles v)) o w = refl
   said_with (alone Decides) o w = refl
-  said_with (alone (Advertises v)) o w = ap (says_where (w == v)) (update_with (untold g u x v))
+  said_with (alone (Advertises v)) o w = ap (says_where (w == v)) (update_with (unadvertised g u x v))
     where
       update_with : (q : Option PrefixView) → says_update g u (with_outboxes x o) w q ≡ says_update g u x w q
       update_with None = refl

@@ -19,7 +19,7 @@ use Rattle.outbox.specs.declared.item.What.TheVariants as item
 use Rattle.router_model.specs.declared.refusal.RouterError.{RouterError}
 use Rattle.router_model.specs.Sides.{is_up}
 use Rattle.router_model.specs.Settings.{Setting, linked, peers, prefixes}
-use Rattle.router_model.specs.State.{Router, is_untold, undecided, is_waiting_peer}
+use Rattle.router_model.specs.State.{Router, is_unadvertised, undecided, is_waiting_peer}
 use Rattle.router_model.specs.Step.{Obeys, Handles, Decides, Advertises, RouterEvent, HasSize, MayObey, May}
 use Rattle.router_model.specs.Calls.{Call, Obey, Tick, Put, Take, Handle, Decide, Advertise, Idle, judged, if_so, put_event, advertise_event, blocked, has_room, bars, command_event, event_of, IsEventOf}
 use Rattle.router_model.specs.Laws.{IdleWhereNothingMayCome}
@@ -139,8 +139,8 @@ idle_call g net u x Decide f h e is may =
 idle_call g net u x Advertise f h e is may =
     let v = is.0 in
     let m : May g u x (alone (Advertises v)) = subst (λ k. May g u x k) is.1 may in
-    let t = is_told (linked g.net u v) (is_up (x.sides v)) (find (is_untold g u x v) (prefixes g)) m in
-    let w = waits (is_up (x.sides v)) (list_any (is_untold g u x v) (prefixes g)) t.1 (found_any (is_untold g u x v) (prefixes g) t.2) in
+    let t = is_told (linked g.net u v) (is_up (x.sides v)) (find (is_unadvertised g u x v) (prefixes g)) m in
+    let w = waits (is_up (x.sides v)) (list_any (is_unadvertised g u x v) (prefixes g)) t.1 (found_any (is_unadvertised g u x v) (prefixes g) t.2) in
     let o = no_telling (find (has_room g u x) (peers g.net u)) h in
     none_found (is_waiting_peer g u x) (linked g.net u) (numbers g.net.routers) v (is_peer g net u v t.0) t.0 w
     (not_blocked (find (has_room g u x) (peers g.net u)) (find (is_waiting_peer g u x) (peers g.net u)) f o)

@@ -18,7 +18,7 @@ use Rattle.session_fsm.specs.declared.actions.Action.{Action}
 use Rattle.session_fsm.specs.declared.actions.Action.TheVariants as action
 use Rattle.router_model.specs.Recording.{left_of, DraftsLeaveEstablished}
 use Rattle.router_model.specs.Sides as sides
-use Rattle.router_model.specs.Sides.{Side, Draft, draft_of, AtHand, NoMessage, HasFault, HasUpdate, does, does_all, meets, obeys, obeys_all, comes, dials, shuts, fits, joins, is_connecting, is_established, is_up, met, reset, second, expires, signed, handled}
+use Rattle.router_model.specs.Sides.{Side, Draft, draft_of, AtHand, NoMessage, HasFault, HasUpdate, apply_once, apply_all_once, react_once, apply, apply_all, react, dials, shuts, fits, is_joined_by, is_connecting, is_established, is_up, draft_event, draft_reset, draft_second, expires, draft_sign, draft_message}
 
 -- ---- actions without Down leave nothing
 
@@ -50,16 +50,16 @@ shut_left : (a : Draft) (o : Option ℕ) → (shuts a o).left ≡ a.left
 shut_left a None = refl
 shut_left a (Some number) = refl
 
-does_all_left : (o : Message) (g : AtHand) (a : Draft) (xs : List Action) → NoDown xs → (does_all o g a xs).left ≡ a.left
+does_all_left : (o : Message) (g : AtHand) (a : Draft) (xs : List Action) → NoDown xs → (apply_all_once o g a xs).left ≡ a.left
 does_all_left o g a [] h = refl
 does_all_left o g a (action.Dial ∷ xs) h = does_all_left o g (dials a) xs h ∙ dials_left a
-does_all_left o g a (action.SendOpen ∷ xs) h = does_all_left o g (does o g a action.SendOpen) xs h
-does_all_left o g a (action.SendAlive ∷ xs) h = does_all_left o g (does o g a action.SendAlive) xs h
-does_all_left o g a (action.SendNotice code ∷ xs) h = does_all_left o g (does o g a (action.SendNotice code)) xs h
-does_all_left o g a (action.SendGiven ∷ xs) h = does_all_left o g (does o g a action.SendGiven) xs h ∙ given_left g a
-does_all_left o g a (action.HangUp ∷ xs) h = does_all_left o g (does o g a action.HangUp) xs h ∙ shut_left a (number_shut a.link)
-does_all_left o g a (action.Act ∷ xs) h = does_all_left o g (does o g a action.Act) xs h
-does_all_left o g a (action.Up ∷ xs) h = does_all_left o g (does o g a action.Up) xs h
+does_all_left o g a (action.SendOpen ∷ xs) h = does_all_left o g (apply_once o g a action.SendOpen) xs h
+does_all_left o g a (action.SendAlive ∷ xs) h = does_all_left o g (apply_once o g a action.SendAlive) xs h
+does_all_left o g a (action.SendNotice code ∷ xs) h = does_all_left o g (apply_once o g a (action.SendNotice code)) xs h
+does_all_left o g a (action.SendGiven ∷ xs) h = does_all_left o g (apply_once o g a action.SendGiven) xs h ∙ given_left g a
+does_all_left o g a (action.HangUp ∷ xs) h = does_all_left o g (apply_once o g a action.HangUp) xs h ∙ shut_left a (number_shut a.link)
+does_all_left o g a (action.Act ∷ xs) h = does_all_left o g (apply_once o g a action.Act) xs h
+does_all_left o g a (action.Up ∷ xs) h = does_all_left o g (apply_once o g a action.Up) xs h
 does_all_left o g a (action.Down ∷ xs) h = absurd h
 
 acked : (st : State) (s : SessionView) → s.state ≡ st → NoDown (on_event s event.TcpCrAcked).actions
@@ -68,21 +68,21 @@ acked st s h = grind arith
 confirmed : (st : State) (s : SessionView) → s.state ≡ st → NoDown (on_event s event.TcpConnectionConfirmed).actions
 confirmed st s h = grind arith
 
-obeyed_left : (o : Message) (g : AtHand) (a : Draft) (xs : List Action) → NoDown xs → (obeys_all o g a xs).left ≡ a.left
-unfolding obeys meets
+obeyed_left : (o : Message) (g : AtHand) (a : Draft) (xs : List Action) → NoDown xs → (apply_all o g a xs).left ≡ a.left
+unfolding apply react_once
 obeyed_left o g a [] h = refl
 obeyed_left o g a (action.Dial ∷ xs) h =
-    obeyed_left o g (obeys o g a action.Dial) xs h
-    ∙ dial_left (joins a action.Dial) a (meets o g (dials a) event.TcpCrAcked) (dials a)
+    obeyed_left o g (apply o g a action.Dial) xs h
+    ∙ dial_left (is_joined_by a action.Dial) a (react_once o g (dials a) event.TcpCrAcked) (dials a)
     (does_all_left o g (record (dials a) { session = (on_event (dials a).session event.TcpCrAcked).session }) (on_event (dials a).session event.TcpCrAcked).actions (acked (dials a).session.state (dials a).session refl) ∙ dials_left a)
     (dials_left a)
-obeyed_left o g a (action.SendOpen ∷ xs) h = obeyed_left o g (does o g a action.SendOpen) xs h
-obeyed_left o g a (action.SendAlive ∷ xs) h = obeyed_left o g (does o g a action.SendAlive) xs h
-obeyed_left o g a (action.SendNotice code ∷ xs) h = obeyed_left o g (does o g a (action.SendNotice code)) xs h
-obeyed_left o g a (action.SendGiven ∷ xs) h = obeyed_left o g (does o g a action.SendGiven) xs h ∙ given_left g a
-obeyed_left o g a (action.HangUp ∷ xs) h = obeyed_left o g (does o g a action.HangUp) xs h ∙ shut_left a (number_shut a.link)
-obeyed_left o g a (action.Act ∷ xs) h = obeyed_left o g (does o g a action.Act) xs h
-obeyed_left o g a (action.Up ∷ xs) h = obeyed_left o g (does o g a action.Up) xs h
+obeyed_left o g a (action.SendOpen ∷ xs) h = obeyed_left o g (apply_once o g a action.SendOpen) xs h
+obeyed_left o g a (action.SendAlive ∷ xs) h = obeyed_left o g (apply_once o g a action.SendAlive) xs h
+obeyed_left o g a (action.SendNotice code ∷ xs) h = obeyed_left o g (apply_once o g a (action.SendNotice code)) xs h
+obeyed_left o g a (action.SendGiven ∷ xs) h = obeyed_left o g (apply_once o g a action.SendGiven) xs h ∙ given_left g a
+obeyed_left o g a (action.HangUp ∷ xs) h = obeyed_left o g (apply_once o g a action.HangUp) xs h ∙ shut_left a (number_shut a.link)
+obeyed_left o g a (action.Act ∷ xs) h = obeyed_left o g (apply_once o g a action.Act) xs h
+obeyed_left o g a (action.Up ∷ xs) h = obeyed_left o g (apply_once o g a action.Up) xs h
 obeyed_left o g a (action.Down ∷ xs) h = absurd h
 
 -- ---- actions without a dial: what is left, and the session
@@ -128,21 +128,21 @@ gone_from : (d : Draft) (s t : SessionView) (xs : List Action) (k l : Option ℕ
 gone_from d s t xs k l m e h p q r =
     subst (λ w. Gone d w (lefts xs l e)) p (subst (λ w. Gone d s (lefts xs w e)) q (subst (λ w. Gone d s (lefts xs k w)) r h))
 
-gone : (o : Message) (g : AtHand) (a : Draft) (xs : List Action) → NoDial xs → Gone (obeys_all o g a xs) a.session (lefts xs a.left a.link.epoch)
-unfolding obeys
+gone : (o : Message) (g : AtHand) (a : Draft) (xs : List Action) → NoDial xs → Gone (apply_all o g a xs) a.session (lefts xs a.left a.link.epoch)
+unfolding apply
 gone o g a [] h = record { left = refl; same = refl }
 gone o g a (action.Dial ∷ xs) h = absurd h
-gone o g a (action.SendOpen ∷ xs) h = gone o g (does o g a action.SendOpen) xs h
-gone o g a (action.SendAlive ∷ xs) h = gone o g (does o g a action.SendAlive) xs h
-gone o g a (action.SendNotice code ∷ xs) h = gone o g (does o g a (action.SendNotice code)) xs h
+gone o g a (action.SendOpen ∷ xs) h = gone o g (apply_once o g a action.SendOpen) xs h
+gone o g a (action.SendAlive ∷ xs) h = gone o g (apply_once o g a action.SendAlive) xs h
+gone o g a (action.SendNotice code ∷ xs) h = gone o g (apply_once o g a (action.SendNotice code)) xs h
 gone o g a (action.SendGiven ∷ xs) h =
     let k = given_same g a in
-    gone_from _ _ a.session xs _ a.left _ a.link.epoch (gone o g (does o g a action.SendGiven) xs h) k.0 (given_left g a) (ap (λ w. w.epoch) k.1)
+    gone_from _ _ a.session xs _ a.left _ a.link.epoch (gone o g (apply_once o g a action.SendGiven) xs h) k.0 (given_left g a) (ap (λ w. w.epoch) k.1)
 gone o g a (action.HangUp ∷ xs) h =
-    gone_from _ _ a.session xs _ a.left _ a.link.epoch (gone o g (does o g a action.HangUp) xs h) (shut_same a (number_shut a.link)) (shut_left a (number_shut a.link)) refl
-gone o g a (action.Act ∷ xs) h = gone o g (does o g a action.Act) xs h
-gone o g a (action.Up ∷ xs) h = gone o g (does o g a action.Up) xs h
-gone o g a (action.Down ∷ xs) h = gone o g (does o g a action.Down) xs h
+    gone_from _ _ a.session xs _ a.left _ a.link.epoch (gone o g (apply_once o g a action.HangUp) xs h) (shut_same a (number_shut a.link)) (shut_left a (number_shut a.link)) refl
+gone o g a (action.Act ∷ xs) h = gone o g (apply_once o g a action.Act) xs h
+gone o g a (action.Up ∷ xs) h = gone o g (apply_once o g a action.Up) xs h
+gone o g a (action.Down ∷ xs) h = gone o g (apply_once o g a action.Down) xs h
 
 -- ---- the table: Down stands in the rows that leave Established, and in no other
 
@@ -189,12 +189,12 @@ open_confirm_row a e = grind arith
 up_is : (st : State) (s : SessionView) → s.state ≡ st → is_established s.state ≡ is_established st
 up_is st s h = ap is_established h
 
-comes_quiet : (o : Message) (g : AtHand) (a : Draft) (e : FsmEvent) → NoDown (on_event a.session e).actions → (comes o g a e).left ≡ a.left
-unfolding comes
+comes_quiet : (o : Message) (g : AtHand) (a : Draft) (e : FsmEvent) → NoDown (on_event a.session e).actions → (react o g a e).left ≡ a.left
+unfolding react
 comes_quiet o g a e h = obeyed_left o g (record a { session = (on_event a.session e).session }) (on_event a.session e).actions h
 
-comes_up : (o : Message) (g : AtHand) (a : Draft) (e : FsmEvent) → a.session.state ≡ Established → (comes o g a e).left ≡ cond (is_established (comes o g a e).session.state) a.left (Some a.link.epoch)
-unfolding comes
+comes_up : (o : Message) (g : AtHand) (a : Draft) (e : FsmEvent) → a.session.state ≡ Established → (react o g a e).left ≡ cond (is_established (react o g a e).session.state) a.left (Some a.link.epoch)
+unfolding react
 comes_up o g a e h =
     let row : on_event a.session e ≡ on_established a.session e = ap (λ st. on_state st a.session e) h in
     let l = leaves a.session e a.left a.link.epoch h in
@@ -212,13 +212,13 @@ up_left true true e l k h n i = i ∙ n
 up_left true false e l k h n i = i
 up_left false c e l k h n i = absurd cc
 
-comes_left : (o : Message) (g : AtHand) (a : Draft) (e : FsmEvent) → a.left ≡ None → (comes o g a e).left ≡ left_of (is_established a.session.state) (is_established (comes o g a e).session.state) a.link.epoch
+comes_left : (o : Message) (g : AtHand) (a : Draft) (e : FsmEvent) → a.left ≡ None → (react o g a e).left ≡ left_of (is_established a.session.state) (is_established (react o g a e).session.state) a.link.epoch
 comes_left o g a e none = at a.session.state refl
   where
     row : (st : State) → a.session.state ≡ st → NoDown (on_state st a.session e).actions → NoDown (on_event a.session e).actions
     row st h d = subst (λ k. NoDown (on_state k a.session e).actions) (sym h) d
 
-    at : (st : State) → a.session.state ≡ st → (comes o g a e).left ≡ left_of (is_established a.session.state) (is_established (comes o g a e).session.state) a.link.epoch
+    at : (st : State) → a.session.state ≡ st → (react o g a e).left ≡ left_of (is_established a.session.state) (is_established (react o g a e).session.state) a.link.epoch
     at Idle h = quiet_left (is_established a.session.state) _ a.link.epoch _ (ap is_established h) (comes_quiet o g a e (row Idle h (idle_row a.session e)) ∙ none)
     at Connect h = quiet_left (is_established a.session.state) _ a.link.epoch _ (ap is_established h) (comes_quiet o g a e (row Connect h (connect_row a.session e)) ∙ none)
     at Active h = quiet_left (is_established a.session.state) _ a.link.epoch _ (ap is_established h) (comes_quiet o g a e (row Active h (active_row a.session e)) ∙ none)
@@ -232,13 +232,13 @@ nothing_left : (b : Bool) (e : ℕ) → None ≡ left_of b b e
 nothing_left true e = refl
 nothing_left false e = refl
 
-pub met_left : (o : Message) (s : Side) (e : FsmEvent) → (met o s e).left ≡ left_of (is_up s) (is_established (met o s e).session.state) s.link.epoch
+pub met_left : (o : Message) (s : Side) (e : FsmEvent) → (draft_event o s e).left ≡ left_of (is_up s) (is_established (draft_event o s e).session.state) s.link.epoch
 met_left o s e = comes_left o NoMessage (draft_of s.session s.link) e refl
 
-pub handled_left : (o : Message) (g : AtHand) (s : Side) (e : FsmEvent) → (comes o g (draft_of s.session s.link) e).left ≡ left_of (is_up s) (is_established (comes o g (draft_of s.session s.link) e).session.state) s.link.epoch
+pub handled_left : (o : Message) (g : AtHand) (s : Side) (e : FsmEvent) → (react o g (draft_of s.session s.link) e).left ≡ left_of (is_up s) (is_established (react o g (draft_of s.session s.link) e).session.state) s.link.epoch
 handled_left o g s e = comes_left o g (draft_of s.session s.link) e refl
 
-pub second_left : (o : Message) (s : Side) → (second o s).left ≡ left_of (is_up s) (is_established (second o s).session.state) s.link.epoch
+pub second_left : (o : Message) (s : Side) → (draft_second o s).left ≡ left_of (is_up s) (is_established (draft_second o s).session.state) s.link.epoch
 second_left o s = at (runs_out s.session)
   where
     at : (e : Option FsmEvent) → (expires o (draft_of (ticked s.session) s.link) e).left ≡ left_of (is_up s) (is_established (expires o (draft_of (ticked s.session) s.link) e).session.state) s.link.epoch
@@ -262,42 +262,42 @@ answer_off : (c : Bool) (d a : Draft) (b : Bool) (e : ℕ) → c ≡ false → a
 answer_off true d a b e h k = absurd cc
 answer_off false d a b e h k = k
 
-answers_left : (o : Message) (s : SessionView) (link : LinkView) (x : Heard) → (sides.answers o (draft_of s link) x).left ≡ left_of (is_established s.state) (is_established (sides.answers o (draft_of s link) x).session.state) link.epoch
-unfolding sides.answers
+answers_left : (o : Message) (s : SessionView) (link : LinkView) (x : Heard) → (sides.react_to_sign o (draft_of s link) x).left ≡ left_of (is_established s.state) (is_established (sides.react_to_sign o (draft_of s link) x).session.state) link.epoch
+unfolding sides.react_to_sign
 answers_left o s link heard.Quiet = nothing_left (is_established s.state) link.epoch
 answers_left o s link heard.Joined = comes_left o NoMessage (draft_of s link) event.TcpCrAcked refl
 answers_left o s link heard.Closed = comes_left o NoMessage (draft_of s link) event.TcpConnectionFails refl
 answers_left o s link (heard.Offered number) = at s.state refl
   where
-    none : (comes o NoMessage (dials (draft_of s link)) event.TcpConnectionConfirmed).left ≡ None
+    none : (react o NoMessage (dials (draft_of s link)) event.TcpConnectionConfirmed).left ≡ None
     none = comes_quiet o NoMessage (dials (draft_of s link)) event.TcpConnectionConfirmed (confirmed (dials (draft_of s link)).session.state (dials (draft_of s link)).session refl) ∙ dials_left (draft_of s link)
 
     down : (st : State) → s.state ≡ st → is_established st ≡ false
-        → (cond (is_connecting s.state) (comes o NoMessage (dials (draft_of s link)) event.TcpConnectionConfirmed) (draft_of s link)).left
-        ≡ left_of (is_established s.state) (is_established (cond (is_connecting s.state) (comes o NoMessage (dials (draft_of s link)) event.TcpConnectionConfirmed) (draft_of s link)).session.state) link.epoch
-    down st h off = quiet_left (is_established s.state) _ link.epoch _ (ap is_established h ∙ off) (dial_left (is_connecting s.state) (draft_of s link) (comes o NoMessage (dials (draft_of s link)) event.TcpConnectionConfirmed) (draft_of s link) none refl)
+        → (cond (is_connecting s.state) (react o NoMessage (dials (draft_of s link)) event.TcpConnectionConfirmed) (draft_of s link)).left
+        ≡ left_of (is_established s.state) (is_established (cond (is_connecting s.state) (react o NoMessage (dials (draft_of s link)) event.TcpConnectionConfirmed) (draft_of s link)).session.state) link.epoch
+    down st h off = quiet_left (is_established s.state) _ link.epoch _ (ap is_established h ∙ off) (dial_left (is_connecting s.state) (draft_of s link) (react o NoMessage (dials (draft_of s link)) event.TcpConnectionConfirmed) (draft_of s link) none refl)
 
     at : (st : State) → s.state ≡ st
-        → (cond (is_connecting s.state) (comes o NoMessage (dials (draft_of s link)) event.TcpConnectionConfirmed) (draft_of s link)).left
-        ≡ left_of (is_established s.state) (is_established (cond (is_connecting s.state) (comes o NoMessage (dials (draft_of s link)) event.TcpConnectionConfirmed) (draft_of s link)).session.state) link.epoch
+        → (cond (is_connecting s.state) (react o NoMessage (dials (draft_of s link)) event.TcpConnectionConfirmed) (draft_of s link)).left
+        ≡ left_of (is_established s.state) (is_established (cond (is_connecting s.state) (react o NoMessage (dials (draft_of s link)) event.TcpConnectionConfirmed) (draft_of s link)).session.state) link.epoch
     at Idle h = down Idle h refl
     at Connect h = down Connect h refl
     at Active h = down Active h refl
     at OpenSent h = down OpenSent h refl
     at OpenConfirm h = down OpenConfirm h refl
-    at Established h = answer_off (is_connecting s.state) (comes o NoMessage (dials (draft_of s link)) event.TcpConnectionConfirmed) (draft_of s link) (is_established s.state) link.epoch (ap is_connecting h) (nothing_left (is_established s.state) link.epoch)
+    at Established h = answer_off (is_connecting s.state) (react o NoMessage (dials (draft_of s link)) event.TcpConnectionConfirmed) (draft_of s link) (is_established s.state) link.epoch (ap is_connecting h) (nothing_left (is_established s.state) link.epoch)
 
-pub signed_left : (o : Message) (s : Side) (x : Sign) → (signed o s x).left ≡ left_of (is_up s) (is_established (signed o s x).session.state) s.link.epoch
+pub signed_left : (o : Message) (s : Side) (x : Sign) → (draft_sign o s x).left ≡ left_of (is_up s) (is_established (draft_sign o s x).session.state) s.link.epoch
 signed_left o s x =
     answers_left o s.session (heard_by s.link x) (meaning_of s.link x)
-    ∙ ap (left_of (is_up s) (is_established (signed o s x).session.state)) (heard_epoch s.link x)
+    ∙ ap (left_of (is_up s) (is_established (draft_sign o s x).session.state)) (heard_epoch s.link x)
 
 -- a reset: the stop leaves, and the start leaves nothing more
 started : (st : State) (s : SessionView) → s.state ≡ st → NoDown (on_event s event.ManualStart).actions
 started st s h = grind arith
 
-stopped_is : (o : Message) (s : Side) → is_up s ≡ true → s.session.state ≡ Established → is_established (met o s event.ManualStop).session.state ≡ false
-unfolding comes
+stopped_is : (o : Message) (s : Side) → is_up s ≡ true → s.session.state ≡ Established → is_established (draft_event o s event.ManualStop).session.state ≡ false
+unfolding react
 stopped_is o s up h =
     let row : on_event s.session event.ManualStop ≡ on_established s.session event.ManualStop = ap (λ st. on_state st s.session event.ManualStop) h in
     let none : NoDial (on_event s.session event.ManualStop).actions = subst (λ w. NoDial w.actions) (sym row) tt in
@@ -307,20 +307,20 @@ stopped_is o s up h =
 established_is : (st : State) → is_established st ≡ true → st ≡ Established
 established_is st h = grind arith
 
-pub reset_left : (o : Message) (s : Side) → is_up s ≡ true → (reset o s).left ≡ Some s.link.epoch
+pub reset_left : (o : Message) (s : Side) → is_up s ≡ true → (draft_reset o s).left ≡ Some s.link.epoch
 reset_left o s up =
-    let m : Draft = met o s event.ManualStop in
+    let m : Draft = draft_event o s event.ManualStop in
     let off = stopped_is o s up (established_is s.session.state up) in
-    comes_quiet o NoMessage (met o s event.ManualStop) event.ManualStart (started (met o s event.ManualStop).session.state (met o s event.ManualStop).session refl)
-    ∙ (met_left o s event.ManualStop ∙ (ap (λ b. left_of b (is_established (met o s event.ManualStop).session.state) s.link.epoch) up ∙ ap (λ b. left_of true b s.link.epoch) off))
+    comes_quiet o NoMessage (draft_event o s event.ManualStop) event.ManualStart (started (draft_event o s event.ManualStop).session.state (draft_event o s event.ManualStop).session refl)
+    ∙ (met_left o s event.ManualStop ∙ (ap (λ b. left_of b (is_established (draft_event o s event.ManualStop).session.state) s.link.epoch) up ∙ ap (λ b. left_of true b s.link.epoch) off))
 
 -- where the session was not up, neither the stop nor the start leaves anything
-reset_quiet : (o : Message) (s : Side) → is_up s ≡ false → (reset o s).left ≡ None
+reset_quiet : (o : Message) (s : Side) → is_up s ≡ false → (draft_reset o s).left ≡ None
 reset_quiet o s down =
-    comes_quiet o NoMessage (met o s event.ManualStop) event.ManualStart (started (met o s event.ManualStop).session.state (met o s event.ManualStop).session refl)
-    ∙ (met_left o s event.ManualStop ∙ ap (λ b. left_of b (is_established (met o s event.ManualStop).session.state) s.link.epoch) down)
+    comes_quiet o NoMessage (draft_event o s event.ManualStop) event.ManualStart (started (draft_event o s event.ManualStop).session.state (draft_event o s event.ManualStop).session refl)
+    ∙ (met_left o s event.ManualStop ∙ ap (λ b. left_of b (is_established (draft_event o s event.ManualStop).session.state) s.link.epoch) down)
 
-reset_of : (o : Message) (s : Side) (b : Bool) → is_up s ≡ b → (reset o s).left ≡ left_of b false s.link.epoch
+reset_of : (o : Message) (s : Side) (b : Bool) → is_up s ≡ b → (draft_reset o s).left ≡ left_of b false s.link.epoch
 reset_of o s true h = reset_left o s h
 reset_of o s false h = reset_quiet o s h
 

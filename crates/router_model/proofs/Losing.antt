@@ -17,7 +17,7 @@ use Rattle.snap_marker.specs.Recordings.{Snapshots, closed, lost, joins_channel,
 use Rattle.router_model.specs.declared.command.Command.TheVariants as command
 use Rattle.router_model.specs.Settings.{Setting, linked, peers}
 use Rattle.router_model.specs.Sides.{Side, Draft, AtHand, NoMessage, HasFault, HasUpdate, carried, told, marked, uses, front, at_hand, event_of, without_front, is_up, is_established}
-use Rattle.router_model.specs.State.{Router, open_of, rule_of, undecided, untold, route}
+use Rattle.router_model.specs.State.{Router, open_of, rule_of, undecided, unadvertised, best_path}
 use Rattle.router_model.specs.Step.{RouterEvent, Obeys, Ticks, Handles, Decides, Advertises, after, seen, close_at, or_first, first_close, keeping, telling_to, telling_of, put_from, records, is_greater, heeds, meets_at, resets_at, second_at, signed_at, handled_at}
 use Rattle.router_model.specs.Recording.{IsRecording, LeavingLosesTheRecording, left_of}
 use Rattle.router_model.proofs.Leaving.{met_left, handled_left, second_left, signed_left, reset_left}
@@ -195,8 +195,8 @@ module _ (g : Setting) (net : IsNetwork g.net) (u v s : ℕ) (x : Router) (r : I
       one_loses x v w s (at_hand (front (rule_of g.net u w) (x.sides w).held)) (handled_at g u x w) r d.0
       (by_equation (handled_at g u x w).left (is_up (x.sides w)) (is_established (handled_at g u x w).session.state) (x.sides w).link.epoch
       (handled_left (open_of g.net u) (at_hand (front (rule_of g.net u w) (x.sides w).held)) (x.sides w) (event_of (front (rule_of g.net u w) (x.sides w).held))) here d.1)
-  loses (alone Decides) down least = absurd (still_up (x.sides v) ((after g u x (alone Decides)).sides v) (kept_up x (undecided g u x) (route g u x) v) up down)
-  loses (alone (Advertises w)) down least = absurd (still_up (x.sides v) ((after g u x (alone (Advertises w))).sides v) (telling_up x w (untold g u x w) (telling_of g u x) v) up down)
+  loses (alone Decides) down least = absurd (still_up (x.sides v) ((after g u x (alone Decides)).sides v) (kept_up x (undecided g u x) (best_path g u x) v) up down)
+  loses (alone (Advertises w)) down least = absurd (still_up (x.sides v) ((after g u x (alone (Advertises w))).sides v) (telling_up x w (unadvertised g u x w) (telling_of g u x) v) up down)
   loses (puts w i) down least = absurd (still_up (x.sides v) ((after g u x (puts w i)).sides v) (put_up (v == w) (x.sides v) i) up down)
   loses (takes w (item.Dial n)) down least = moved_loses w NoMessage (signed_at g u x w (sign.Dial n)) (signed_left (open_of g.net u) (x.sides w) (sign.Dial n)) down
   loses (takes w (item.Piece n octets)) down least =

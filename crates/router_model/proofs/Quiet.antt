@@ -24,9 +24,9 @@ use Rattle.outbox.specs.declared.item.What.{What}
 use Rattle.outbox.specs.declared.item.What.TheVariants as item
 use Rattle.router_model.specs.Messages.{updates_in, is_update}
 use Rattle.router_model.specs.Sides as sides
-use Rattle.router_model.specs.Sides.{Side, Draft, draft_of, AtHand, NoMessage, HasFault, HasUpdate, does, does_all, meets, joins, obeys, obeys_all, comes, dials, shuts, fits, is_connecting, expires, met, reset, second, signed, handled, carried, told, marked, is_up, front, at_hand, without_front, uses, with_update}
+use Rattle.router_model.specs.Sides.{Side, Draft, draft_of, AtHand, NoMessage, HasFault, HasUpdate, apply_once, apply_all_once, react_once, is_joined_by, apply, apply_all, react, dials, shuts, fits, is_connecting, expires, draft_event, draft_reset, draft_second, draft_sign, draft_message, carried, told, marked, is_up, front, at_hand, without_front, uses, with_update}
 use Rattle.router_model.specs.Settings.{Setting, linked, peers}
-use Rattle.router_model.specs.State.{Router, open_of, rule_of, untold}
+use Rattle.router_model.specs.State.{Router, open_of, rule_of, unadvertised}
 use Rattle.router_model.specs.Step.{RouterEvent, Obeys, Ticks, Handles, Decides, Advertises, after, says, says_by, says_where, says_update, says_of_taken, says_markers, obeyed, taken, telling_to, telling_of, keeping, heeds, is_greater, records, put_from, meets_at, resets_at, signed_at, second_at, handled_at}
 use Rattle.snap_marker.specs.Recordings.{ends_channel}
 use Rattle.router_model.specs.Laws.{SentIsWhatIsSaid}
@@ -57,7 +57,7 @@ quiet_shut a (Some number) h = quiet_more a.says (Shut number) h (λ n. refl)
 quiet_dials : (a : Draft) → IsQuiet a.says → IsQuiet (dials a).says
 quiet_dials a h = subst IsQuiet (sym (says_dial (fits (next_number a.link)) a _ _)) (quiet_dial (fits (next_number a.link)) a h)
 
-quiet_does : (o : Message) (g : AtHand) (a : Draft) (x : Action) → is_update o ≡ false → IsQuiet a.says → IsQuiet (does o g a x).says
+quiet_does : (o : Message) (g : AtHand) (a : Draft) (x : Action) → is_update o ≡ false → IsQuiet a.says → IsQuiet (apply_once o g a x).says
 quiet_does o g a action.Dial q h = quiet_dials a h
 quiet_does o g a action.SendOpen q h = quiet_tell a o q h
 quiet_does o g a action.SendAlive q h = quiet_tell a _ refl h
@@ -70,41 +70,41 @@ quiet_does o g a action.Act q h = h
 quiet_does o g a action.Up q h = h
 quiet_does o g a action.Down q h = h
 
-quiet_does_all : (o : Message) (g : AtHand) (a : Draft) (xs : List Action) → is_update o ≡ false → IsQuiet a.says → IsQuiet (does_all o g a xs).says
+quiet_does_all : (o : Message) (g : AtHand) (a : Draft) (xs : List Action) → is_update o ≡ false → IsQuiet a.says → IsQuiet (apply_all_once o g a xs).says
 quiet_does_all o g a [] q h = h
-quiet_does_all o g a (x ∷ xs) q h = quiet_does_all o g (does o g a x) xs q (quiet_does o g a x q h)
+quiet_does_all o g a (x ∷ xs) q h = quiet_does_all o g (apply_once o g a x) xs q (quiet_does o g a x q h)
 
-quiet_meets : (o : Message) (g : AtHand) (a : Draft) (e : FsmEvent) → is_update o ≡ false → IsQuiet a.says → IsQuiet (meets o g a e).says
-unfolding meets
+quiet_meets : (o : Message) (g : AtHand) (a : Draft) (e : FsmEvent) → is_update o ≡ false → IsQuiet a.says → IsQuiet (react_once o g a e).says
+unfolding react_once
 quiet_meets o g a e q h = quiet_does_all o g (record a { session = (on_event a.session e).session }) (on_event a.session e).actions q h
 
 either : (b : Bool) (d e : Draft) → IsQuiet d.says → IsQuiet e.says → IsQuiet (cond b d e).says
 either true d e h k = h
 either false d e h k = k
 
-quiet_obeys : (o : Message) (g : AtHand) (a : Draft) (x : Action) → is_update o ≡ false → IsQuiet a.says → IsQuiet (obeys o g a x).says
-unfolding obeys
+quiet_obeys : (o : Message) (g : AtHand) (a : Draft) (x : Action) → is_update o ≡ false → IsQuiet a.says → IsQuiet (apply o g a x).says
+unfolding apply
 quiet_obeys o g a x q h =
-    either (joins a x) (meets o g (does o g a x) event.TcpCrAcked) (does o g a x) (quiet_meets o g (does o g a x) event.TcpCrAcked q (quiet_does o g a x q h)) (quiet_does o g a x q h)
+    either (is_joined_by a x) (react_once o g (apply_once o g a x) event.TcpCrAcked) (apply_once o g a x) (quiet_meets o g (apply_once o g a x) event.TcpCrAcked q (quiet_does o g a x q h)) (quiet_does o g a x q h)
 
-quiet_obeys_all : (o : Message) (g : AtHand) (a : Draft) (xs : List Action) → is_update o ≡ false → IsQuiet a.says → IsQuiet (obeys_all o g a xs).says
+quiet_obeys_all : (o : Message) (g : AtHand) (a : Draft) (xs : List Action) → is_update o ≡ false → IsQuiet a.says → IsQuiet (apply_all o g a xs).says
 quiet_obeys_all o g a [] q h = h
-quiet_obeys_all o g a (x ∷ xs) q h = quiet_obeys_all o g (obeys o g a x) xs q (quiet_obeys o g a x q h)
+quiet_obeys_all o g a (x ∷ xs) q h = quiet_obeys_all o g (apply o g a x) xs q (quiet_obeys o g a x q h)
 
-pub quiet_comes : (o : Message) (g : AtHand) (a : Draft) (e : FsmEvent) → is_update o ≡ false → IsQuiet a.says → IsQuiet (comes o g a e).says
-unfolding comes
+pub quiet_comes : (o : Message) (g : AtHand) (a : Draft) (e : FsmEvent) → is_update o ≡ false → IsQuiet a.says → IsQuiet (react o g a e).says
+unfolding react
 quiet_comes o g a e q h = quiet_obeys_all o g (record a { session = (on_event a.session e).session }) (on_event a.session e).actions q h
 
 quiet_expires : (o : Message) (a : Draft) (e : Option FsmEvent) → is_update o ≡ false → IsQuiet a.says → IsQuiet (expires o a e).says
 quiet_expires o a None q h = h
 quiet_expires o a (Some e) q h = quiet_comes o NoMessage a e q h
 
-quiet_answers : (o : Message) (a : Draft) (x : Heard) → is_update o ≡ false → IsQuiet a.says → IsQuiet (sides.answers o a x).says
-unfolding sides.answers
+quiet_answers : (o : Message) (a : Draft) (x : Heard) → is_update o ≡ false → IsQuiet a.says → IsQuiet (sides.react_to_sign o a x).says
+unfolding sides.react_to_sign
 quiet_answers o a heard.Quiet q h = h
 quiet_answers o a heard.Joined q h = quiet_comes o NoMessage a event.TcpCrAcked q h
 quiet_answers o a (heard.Offered number) q h =
-    either (is_connecting a.session.state) (comes o NoMessage (dials a) event.TcpConnectionConfirmed) a (quiet_comes o NoMessage (dials a) event.TcpConnectionConfirmed q (quiet_dials a h)) h
+    either (is_connecting a.session.state) (react o NoMessage (dials a) event.TcpConnectionConfirmed) a (quiet_comes o NoMessage (dials a) event.TcpConnectionConfirmed q (quiet_dials a h)) h
 quiet_answers o a heard.Closed q h = quiet_comes o NoMessage a event.TcpConnectionFails q h
 
 -- ---- case by case
@@ -187,7 +187,7 @@ by_event g u v n x (alone Ticks) = one (linked g.net u v) n NoMessage (x.sides v
 by_event g u v n x (alone (Handles w)) =
     behind_front (v == w) n (at_hand (front (rule_of g.net u w) (x.sides w).held)) (x.sides v) (handled_at g u x w) (quiet_comes (open_of g.net u) _ _ _ refl (λ k. refl))
 by_event g u v n x (alone Decides) = same ((x.sides v).sent n) _ (keeps x _ _ v n)
-by_event g u v n x (alone (Advertises w)) = by_telling g u v w n x (untold g u x w)
+by_event g u v n x (alone (Advertises w)) = by_telling g u v w n x (unadvertised g u x w)
 by_event g u v n x (puts w i) = same ((x.sides v).sent n) _ (put_one (v == w) n (x.sides v) i)
 by_event g u v n x (takes w i) = by_item g u v w n x i
 by_event g u v n x (offers o) = same ((x.sides v).sent n) ((x.sides v).sent n) refl

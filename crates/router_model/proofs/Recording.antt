@@ -17,7 +17,7 @@ use Rattle.snap_marker.specs.Recordings.{RouterPart, RouterOffer, Recording, Sna
 use Rattle.router_model.specs.declared.command.Command.TheVariants as command
 use Rattle.router_model.specs.Settings.{Setting, peers}
 use Rattle.router_model.specs.Sides.{AtHand, NoMessage, HasFault, HasUpdate, at_hand, front, is_up}
-use Rattle.router_model.specs.State.{Router, rule_of, undecided, untold, route}
+use Rattle.router_model.specs.State.{Router, rule_of, undecided, unadvertised, best_path}
 use Rattle.router_model.specs.Step.{RouterEvent, Obeys, Ticks, Handles, Decides, Advertises, May, after, seen, close_at, first_close, keeping, telling_to, telling_of, records, recording_of, is_greater, heeds, meets_at, resets_at, second_at, signed_at, handled_at}
 use Rattle.router_model.specs.Recording.{IsRecording, IsNext, GoesOn, RecordingsGoOn}
 
@@ -203,8 +203,8 @@ module _ (g : Setting) (u : ℕ) (x : Router) where
   goes_after (alone (Obeys command.Restart)) may = close_goes x.snapshots (first_close (peers g.net u) (λ w. meets_at g u x w ManualStop))
   goes_after (alone Ticks) may = close_goes x.snapshots (first_close (peers g.net u) (second_at g u x))
   goes_after (alone (Handles w)) may = moved_goes w (handled_at g u x w).acts (at_hand (front (rule_of g.net u w) (x.sides w).held)) (close_at w (handled_at g u x w).left)
-  goes_after (alone Decides) may = kept_goes (undecided g u x) (route g u x)
-  goes_after (alone (Advertises w)) may = told_goes w (untold g u x w) (telling_of g u x)
+  goes_after (alone Decides) may = kept_goes (undecided g u x) (best_path g u x)
+  goes_after (alone (Advertises w)) may = told_goes w (unadvertised g u x w) (telling_of g u x)
   goes_after (puts w i) may = stays x.snapshots
   goes_after (takes w (item.Dial n)) may = moved_goes w (signed_at g u x w (sign.Dial n)).acts NoMessage (close_at w (signed_at g u x w (sign.Dial n)).left)
   goes_after (takes w (item.Piece n octets)) may = stays x.snapshots

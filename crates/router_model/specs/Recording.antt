@@ -8,7 +8,7 @@ use Rattle.ranked_policy.specs.Plans.{IsNetwork}
 use Rattle.run_model.specs.Offers.{Finished, Lost, Closed, IsIn}
 use Rattle.snap_marker.specs.Recordings.{RouterPart, Recording, Snapshots}
 use Rattle.router_model.specs.Settings.{Setting, linked}
-use Rattle.router_model.specs.Sides.{Side, AtHand, comes, draft_of, is_established, is_up, met, reset, second, signed}
+use Rattle.router_model.specs.Sides.{Side, AtHand, react, draft_of, is_established, is_up, draft_event, draft_reset, draft_second, draft_sign}
 use Rattle.router_model.specs.State.{Router}
 use Rattle.router_model.specs.Step.{RouterEvent, Step}
 
@@ -56,13 +56,16 @@ left_of false now e = None
 -- a draft leaves the incarnation exactly where the session was Established and is no more; a reset leaves it if the
 -- session was up
 pub record LeavesEstablished (own_open : Message) (s : Side) : Type 0 where
-  pub met_by : (e : FsmEvent) → (met own_open s e).left ≡ left_of (is_up s) (is_established (met own_open s e).session.state) s.link.epoch
-  pub reset_is : (reset own_open s).left ≡ left_of (is_up s) false s.link.epoch
-  pub second_is : (second own_open s).left ≡ left_of (is_up s) (is_established (second own_open s).session.state) s.link.epoch
-  pub signed_by : (x : Sign) → (signed own_open s x).left ≡ left_of (is_up s) (is_established (signed own_open s x).session.state) s.link.epoch
+  pub met_by : (e : FsmEvent) → (draft_event own_open s e).left
+      ≡ left_of (is_up s) (is_established (draft_event own_open s e).session.state) s.link.epoch
+  pub reset_is : (draft_reset own_open s).left ≡ left_of (is_up s) false s.link.epoch
+  pub second_is : (draft_second own_open s).left
+      ≡ left_of (is_up s) (is_established (draft_second own_open s).session.state) s.link.epoch
+  pub signed_by : (x : Sign) → (draft_sign own_open s x).left
+      ≡ left_of (is_up s) (is_established (draft_sign own_open s x).session.state) s.link.epoch
   pub handled_by : (h : AtHand) (e : FsmEvent)
-      → (comes own_open h (draft_of s.session s.link) e).left
-      ≡ left_of (is_up s) (is_established (comes own_open h (draft_of s.session s.link) e).session.state) s.link.epoch
+      → (react own_open h (draft_of s.session s.link) e).left
+      ≡ left_of (is_up s) (is_established (react own_open h (draft_of s.session s.link) e).session.state) s.link.epoch
 
 abbrev pub DraftsLeaveEstablished : Type 0
 DraftsLeaveEstablished = (own_open : Message) (s : Side) → LeavesEstablished own_open s

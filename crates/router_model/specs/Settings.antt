@@ -5,7 +5,7 @@ use Rattle.prefix_lanes.specs.Bits.{PrefixView, is_prefix}
 use Rattle.ranked_policy.specs.Plans.{Plan, IsRouter, IsNamed, IsNetwork, numbers}
 pub use Rattle.ranked_policy.specs.Peers.{joins, linked, peers}
 use Rattle.ranked_policy.specs.declared.network.Origin.{Origin}
-use Rattle.ranked_policy.specs.declared.network.Router as network
+use Rattle.ranked_policy.specs.declared.network.NetRouter as network
 use Rattle.stable_paths.specs.Stable.{IsBest}
 
 -- a network, and the best path of each router for a prefix, by whether it originates the prefix and by the path heard
@@ -43,6 +43,6 @@ abbrev pub prefixes : Setting → List PrefixView
 prefixes g = map (λ o. o.prefix) g.net.origins
 
 -- the BGP Identifier of a router (RFC 4271 section 1.1)
-abbrev pub identifier : List network.Router → ℕ → ℕ
+abbrev pub identifier : List network.NetRouter → ℕ → ℕ
 identifier [] u = 0
 identifier (r ∷ rs) u = cond (r.asn == u) r.id (identifier rs u)

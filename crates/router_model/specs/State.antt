@@ -92,28 +92,28 @@ module _ (g : Setting) (u : ℕ) where
   path_from x q v = cond (linked g.net u v && is_up (x.sides v)) (path_in (heard (x.sides v) q)) []
 
   -- the best of the choices now (section 9.1)
-  abbrev pub route : Router → PrefixView → List ℕ
-  route x q = g.best u q (x.originated q) (path_from x q)
+  abbrev pub best_path : Router → PrefixView → List ℕ
+  best_path x q = g.best u q (x.originated q) (path_from x q)
 
-  -- the least prefix whose kept path is not the route
+  -- the least prefix whose kept path is not the best path
   abbrev pub is_undecided : Router → PrefixView → Bool
-  is_undecided x q = not (same_path (x.kept q) (route x q))
+  is_undecided x q = not (same_path (x.kept q) (best_path x q))
 
   abbrev pub undecided : Router → Option PrefixView
   undecided x = find (is_undecided x) (prefixes g)
 
   -- the least prefix whose kept path is not the last word told to a peer, if the session is Established
-  abbrev pub is_untold : Router → ℕ → PrefixView → Bool
-  is_untold x v q = not (same_path (x.kept q) (path_in (last_told (x.sides v) q)))
+  abbrev pub is_unadvertised : Router → ℕ → PrefixView → Bool
+  is_unadvertised x v q = not (same_path (x.kept q) (path_in (last_told (x.sides v) q)))
 
-  abbrev pub untold : Router → ℕ → Option PrefixView
-  untold x v = cond (linked g.net u v && is_up (x.sides v)) (find (is_untold x v) (prefixes g)) None
+  abbrev pub unadvertised : Router → ℕ → Option PrefixView
+  unadvertised x v = cond (linked g.net u v && is_up (x.sides v)) (find (is_unadvertised x v) (prefixes g)) None
 
   -- an Established peer waits to be told
   abbrev pub is_waiting_peer : Router → ℕ → Bool
-  is_waiting_peer x v = cond (is_up (x.sides v)) (list_any (is_untold x v) (prefixes g)) false
+  is_waiting_peer x v = cond (is_up (x.sides v)) (list_any (is_unadvertised x v) (prefixes g)) false
 
-  -- some kept path is not the route, or an Established peer was not told one
+  -- some kept path is not the best path, or an Established peer was not told one
   abbrev pub is_pending : Router → Bool
   is_pending x = list_any (is_undecided x) (prefixes g) || list_any (is_waiting_peer x) (peers g.net u)
 

@@ -19,10 +19,10 @@ use Rattle.router_model.specs.declared.command.Command.{Command}
 use Rattle.router_model.specs.declared.command.Command.TheVariants as command
 use Rattle.outbox.specs.declared.item.What.{What}
 use Rattle.outbox.specs.declared.item.What.TheVariants as item
-use Rattle.router_model.specs.Sides.{Side, Draft, AtHand, NoMessage, HasFault, HasUpdate, met, reset, second, signed, handled, front, at_hand, without_front, fed, uses, carried, told, marked, is_up}
+use Rattle.router_model.specs.Sides.{Side, Draft, AtHand, NoMessage, HasFault, HasUpdate, draft_event, draft_reset, draft_second, draft_sign, draft_message, front, at_hand, without_front, fed, uses, carried, told, marked, is_up}
 use Rattle.snap_marker.specs.Recordings.{RouterPart, RouterOffer, MadeOffer, Recording, Snapshots, closed, acted_on, ends_channel, begun}
 use Rattle.router_model.specs.Settings.{Setting, linked, peers, is_origin, identifier}
-use Rattle.router_model.specs.State.{Router, open_of, rule_of, telling, undecided, untold, route, is_pending}
+use Rattle.router_model.specs.State.{Router, open_of, rule_of, telling, undecided, unadvertised, best_path, is_pending}
 
 -- what a router does alone
 pub data Own : Type 0 where
@@ -93,9 +93,9 @@ abbrev pub forgetting : Router → Router
 forgetting x = record x { kept = λ q. []; originated = λ q. false }
 
 -- a recording waits for the marker of each peer but the one whose marker came first
-abbrev pub awaits : Option ℕ → ℕ → Bool
-awaits None v = true
-awaits (Some first) v = not (v == first)
+abbrev pub awaits_marker : Option ℕ → ℕ → Bool
+awaits_marker None v = true
+awaits_marker (Some first) v = not (v == first)
 
 -- the number is above the last recorded one
 abbrev pub is_greater : Router → ℕ → Bool
@@ -115,19 +115,19 @@ module _ (g : Setting) (u : ℕ) where
   -- ---- the drafts of its events
 
   abbrev pub meets_at : Router → ℕ → FsmEvent → Draft
-  meets_at x v e = met (open_of g.net u) (x.sides v) e
+  meets_at x v e = draft_event (open_of g.net u) (x.sides v) e
 
   abbrev pub resets_at : Router → ℕ → Draft
-  resets_at x v = reset (open_of g.net u) (x.sides v)
+  resets_at x v = draft_reset (open_of g.net u) (x.sides v)
 
   abbrev pub second_at : Router → ℕ → Draft
-  second_at x v = second (open_of g.net u) (x.sides v)
+  second_at x v = draft_second (open_of g.net u) (x.sides v)
 
   abbrev pub signed_at : Router → ℕ → Sign → Draft
-  signed_at x v s = signed (open_of g.net u) (x.sides v) s
+  signed_at x v s = draft_sign (open_of g.net u) (x.sides v) s
 
   abbrev pub handled_at : Router → ℕ → Draft
-  handled_at x v = handled (open_of g.net u) (front (rule_of g.net u v) (x.sides v).held) (x.sides v)
+  handled_at x v = draft_message (open_of g.net u) (front (rule_of g.net u v) (x.sides v).held) (x.sides v)
 
   -- the drafts of all peers' sides are carried out
   abbrev pub all_moved : Router → (ℕ → Draft) → Router
@@ -152,7 +152,7 @@ module _ (g : Setting) (u : ℕ) where
   }
 
   abbrev pub recording_of : Router → ℕ → Option ℕ → Recording
-  recording_of x s first = record { number = s; part = recorded_part x; waits = awaits first }
+  recording_of x s first = record { number = s; part = recorded_part x; waits = awaits_marker first }
 
   -- the recording takes the state as it is; markers go to every Established peer, behind all that was appended before
   abbrev pub records : Router → ℕ → Option ℕ → Router
@@ -206,7 +206,7 @@ module _ (g : Setting) (u : ℕ) where
   May x (alone Ticks) = Unit {0}
   May x (alone (Handles v)) = (linked g.net u v ≡ true) × (is_waiting (x.sides v).held ≡ true)
   May x (alone Decides) = is_some (undecided g u x) ≡ true
-  May x (alone (Advertises v)) = is_some (untold g u x v) ≡ true
+  May x (alone (Advertises v)) = is_some (unadvertised g u x v) ≡ true
   May x (puts v i) = (linked g.net u v ≡ true) × HasSize g.net.settings.cut i × IsPrefix (passes i) (x.sides v).outbox
   May x (takes v i) = (linked g.net u v ≡ true) × (is_waiting (x.sides v).held ≡ false)
   May x (offers made) = (made.router ≡ u) × (next_offer x ≡ Some made.offer)
@@ -217,8 +217,8 @@ module _ (g : Setting) (u : ℕ) where
   after x (alone Ticks) = all_moved x (second_at x)
   after x (alone (Handles v)) =
       moved (with_side x v without_front) v (at_hand (front (rule_of g.net u v) (x.sides v).held)) (handled_at x v)
-  after x (alone Decides) = keeping x (undecided g u x) (route g u x)
-  after x (alone (Advertises v)) = telling_to x v (untold g u x v) (telling_of x)
+  after x (alone Decides) = keeping x (undecided g u x) (best_path g u x)
+  after x (alone (Advertises v)) = telling_to x v (unadvertised g u x v) (telling_of x)
   after x (puts v i) = with_side x v (λ s. put_from s i)
   after x (takes v i) = taken x v i
   after x (offers made) = without_offer x
@@ -275,7 +275,7 @@ module _ (g : Setting) (u : ℕ) where
   says x (alone Ticks) v = says_where (linked g.net u v) (second_at x v).says
   says x (alone (Handles w)) v = says_where (v == w) (handled_at x w).says
   says x (alone Decides) v = []
-  says x (alone (Advertises w)) v = says_where (v == w) (says_update x v (untold g u x w))
+  says x (alone (Advertises w)) v = says_where (v == w) (says_update x v (unadvertised g u x w))
   says x (puts w i) v = []
   says x (takes w i) v = says_of_taken x w i v
   says x (offers made) v = []

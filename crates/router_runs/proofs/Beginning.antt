@@ -16,7 +16,7 @@ use Rattle.snap_marker.specs.Recordings.{RouterOffer, Recording, Snapshots, goes
 use Rattle.router_model.specs.Settings.{Setting, linked, peers}
 use Rattle.router_model.specs.Sides.{Side, is_up, marked}
 use Rattle.router_model.specs.State.{Router}
-use Rattle.router_model.specs.Step.{awaits, recording_of, records, says_markers}
+use Rattle.router_model.specs.Step.{awaits_marker, recording_of, records, says_markers}
 use Rattle.router_runs.specs.Model.{network_of}
 use Rattle.router_runs.specs.Doing.{Stands}
 use Rattle.router_runs.specs.Kept.{Holds}
@@ -60,7 +60,7 @@ module _ (laws : Laws) (g : Setting) (net : IsNetwork g.net) (u : ℕ) (far : �
     pub recorded : Recorded n acting x.snapshots.last x.snapshots.last
     pub act : (whole : Bool) (queues : List RouterOffer) → model.AllUp (linked g.net u) acting.recorder.ends whole
         → offers.Records (network_of g) u acting.recorder s whole queues
-        → Goes g u far Still acting (begun_from acting ends s whole (awaits first)) queues
+        → Goes g u far Still acting (begun_from acting ends s whole (awaits_marker first)) queues
     pub alike : AreAlike g u x acting.recorder.ends
     pub stands : (v : ℕ) → linked g.net u v ≡ true → Stands (x.sides v) (ends v) (far v)
     pub appended : (v : ℕ) → linked g.net u v ≡ true → (ends v).appended ≡ (n.recorder.ends v).appended
@@ -78,7 +78,7 @@ module _ (laws : Laws) (g : Setting) (net : IsNetwork g.net) (u : ℕ) (far : �
     left_by d = record x { sides = sides; snapshots = begins_or_is_lost (peers g.net u) d r (superseding r (peers g.net u) x.snapshots) }
 
     abbrev becomes : Option ℕ → ModelRouter
-    becomes d = begun_from acting ends s (is_whole d) (awaits first)
+    becomes d = begun_from acting ends s (is_whole d) (awaits_marker first)
 
     abbrev sup : List RouterOffer
     sup = superseded (peers g.net u) (λ v. (x.sides v).link.epoch) x.snapshots.unfinished

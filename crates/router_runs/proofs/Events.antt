@@ -22,10 +22,10 @@ use Rattle.router_model.specs.declared.command.Command.{Command}
 use Rattle.router_model.specs.declared.command.Command.TheVariants as command
 use Rattle.outbox.specs.declared.item.What.{What}
 use Rattle.outbox.specs.declared.item.What.TheVariants as item
-use Rattle.router_model.specs.Sides.{rest_behind, Side, Draft, AtHand, NoMessage, at_hand, front, carried, handled, without_front, fed, uses, told, marked, is_up}
+use Rattle.router_model.specs.Sides.{rest_behind, Side, Draft, AtHand, NoMessage, at_hand, front, carried, draft_message, without_front, fed, uses, told, marked, is_up}
 use Rattle.snap_marker.specs.Recordings.{ends_channel}
 use Rattle.router_model.specs.Settings.{identifier, Setting, linked, peers, prefixes}
-use Rattle.router_model.specs.State.{Router, rule_of, untold, undecided, route, is_untold, asn_field, params_of}
+use Rattle.router_model.specs.State.{Router, rule_of, unadvertised, undecided, best_path, is_unadvertised, asn_field, params_of}
 use Rattle.router_model.specs.Step.{overflows_taking, RouterEvent, Obeys, Ticks, Handles, Decides, Advertises, May, after, says, says_where, says_update, says_by, says_of_taken, overflows, overflows_by, meets_at, resets_at, second_at, signed_at, handled_at, heeds, is_greater, records, keeping, telling_to, telling_of, put_from, obeyed, taken}
 use Rattle.outbox.specs.Items.{passes}
 use Rattle.router_model.specs.Laws.{all_passes}
@@ -59,7 +59,7 @@ module _ (laws : Laws) where
   ]
 
   handles : (g : Setting) (u v : ℕ) (o : Open) (s : Side) (before : List (Passing Message)) (a b : End Message) → Before laws g v s before a b → IsPrefix before (passing (written_in g) b.appended) → is_waiting s.held ≡ true
-      → Advances g s (carried (at_hand (front (rule_of g.net u v) s.held)) (without_front s) (handled (OpenMsg o) (front (rule_of g.net u v) s.held) s)) (handled (OpenMsg o) (front (rule_of g.net u v) s.held) s).says before [] a b
+      → Advances g s (carried (at_hand (front (rule_of g.net u v) s.held)) (without_front s) (draft_message (OpenMsg o) (front (rule_of g.net u v) s.held) s)) (draft_message (OpenMsg o) (front (rule_of g.net u v) s.held) s).says before [] a b
   handles g u v o s before a b x is waits = elim (decides laws s.link.phase) [
     | inr n ↦ absurd (let none : is_waiting s.held ≡ false = ap is_waiting (x.holds.apart n) in cc (waits, none))
     | inl j ↦ (
@@ -70,11 +70,11 @@ module _ (laws : Laws) where
         let reads : front (rule_of g.net u v) s.held ≡ Ok m = ap (front (rule_of g.net u v)) f.is ∙ front_ok laws g u v m f.rest f.good in
         let left : (without_front s).held ≡ f.rest = ap (λ (w : List ℕ). rest_behind (header_fault w) w) f.is ∙ rest_ok laws g v m f.rest f.good in
         let h = handled_event laws m o s a b x.stands j f.next in
-        subst (λ (r : Result Message Fault). Advances g s (carried (at_hand r) (without_front s) (handled (OpenMsg o) r s)) (handled (OpenMsg o) r s).says before [] a b) (sym reads)
+        subst (λ (r : Result Message Fault). Advances g s (carried (at_hand r) (without_front s) (draft_message (OpenMsg o) r s)) (draft_message (OpenMsg o) r s).says before [] a b) (sym reads)
         (record {
           past = Says s.link.epoch m ∷ [];
           does = h.does;
-          holds = plus_nothing laws g (carried (at_hand (Ok m)) (without_front s) (handled (OpenMsg o) (Ok m) s)) before (sides_after (model_side s a) h.does.events).end (holds_handled laws g s m (handled (OpenMsg o) (Ok m) s) f.rest before a b x.holds j f.is left h);
+          holds = plus_nothing laws g (carried (at_hand (Ok m)) (without_front s) (draft_message (OpenMsg o) (Ok m) s)) before (sides_after (model_side s a) h.does.events).end (holds_handled laws g s m (draft_message (OpenMsg o) (Ok m) s) f.rest before a b x.holds j f.is left h);
         }))
   ]
 
@@ -272,9 +272,9 @@ module _ (laws : Laws) where
         (λ i. is_waiting (x.sides i).held ≡ true → Advances g (x.sides v) (carried (at_hand (front (rule_of g.net u i) (x.sides i).held)) (without_front (x.sides v)) (handled_at g u x i)) (handled_at g u x i).says before [] a b)
         v w h (λ waits. handles g u v (own_open g u) (x.sides v) before a b k (alone_is is) waits) may.1)
     step_side (alone Decides) may over is =
-        subst (λ (t : Side). Advances g (x.sides v) t [] before [] a b) (sym (keeps_sides x (undecided g u x) (route g u x) v)) (idles laws g v (x.sides v) (x.sides v) before a b k refl refl refl refl refl)
+        subst (λ (t : Side). Advances g (x.sides v) t [] before [] a b) (sym (keeps_sides x (undecided g u x) (best_path g u x) v)) (idles laws g v (x.sides v) (x.sides v) before a b k refl refl refl refl refl)
     step_side (alone (Advertises w)) may over is =
-        advertises g u v w x (untold g u x w) before a b k (λ p h. untold_up (linked g.net u w) (is_up (x.sides w)) (find (is_untold g u x w) (prefixes g)) p h)
+        advertises g u v w x (unadvertised g u x w) before a b k (λ p h. untold_up (linked g.net u w) (is_up (x.sides w)) (find (is_unadvertised g u x w) (prefixes g)) p h)
     step_side (puts w i) may over is = puts_one g v (v == w) i (x.sides v) before a b k
     step_side (takes w i) may over is =
         let turn : all_passes (if v == w then i ∷ [] else []) ≡ all_passes (if w == v then i ∷ [] else []) = ap (λ c. all_passes (if c then i ∷ [] else [])) (swapped laws v w) in

@@ -27,7 +27,7 @@ use Rattle.bgp_values.specs.declared.width.Width.TheVariants.{Two, Four}
 use Rattle.bgp_codec.specs.Updates.{UpdateFits, AttrsFit, attrs_octets, update_octets, prefix_octets, octet_count, long_string, segment_octets, is_from}
 use Rattle.bgp_codec.specs.Spelling.{IsWritable, written_body}
 use Rattle.bgp_codec.specs.Faults.{IsFrom}
-use Rattle.ranked_policy.specs.declared.network.Router as network
+use Rattle.ranked_policy.specs.declared.network.NetRouter as network
 use Rattle.ranked_policy.specs.declared.network.Origin.{Origin}
 use Rattle.ranked_policy.specs.Plans.{IsRouter, IsNamed, numbers, identifiers}
 use Rattle.router_model.specs.Settings.{Setting, identifier}
@@ -47,7 +47,7 @@ module _ (laws : Laws) where
   pub small_asn : (g : Setting) → IsSetting g → (u : ℕ) → IsRouter g.net.routers u → u ≤ greatest_asn g.net.settings.width
   small_asn g set u is = (asn_of g set u is).1
 
-  id_at : (P : ℕ → Type 0) (rs : List network.Router) (u : ℕ) → AllByRecursion P (map (λ r. r.id) rs) → list_any (nat_eq u) (map (λ r. r.asn) rs) ≡ true → P (identifier rs u)
+  id_at : (P : ℕ → Type 0) (rs : List network.NetRouter) (u : ℕ) → AllByRecursion P (map (λ r. r.id) rs) → list_any (nat_eq u) (map (λ r. r.asn) rs) ≡ true → P (identifier rs u)
   id_at P [] u all is = absurd (cc is)
   id_at P (r ∷ rs) u all is = here (r.asn == u) (nat_eq u r.asn) refl refl is (λ k. id_at P rs u all.1 k)
     where

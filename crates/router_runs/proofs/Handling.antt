@@ -16,7 +16,7 @@ use Rattle.session_fsm.specs.declared.event.FsmEvent.TheVariants as event
 use Rattle.run_model.specs.Links as links
 use Rattle.run_model.specs.Links.{Entry, Says, Shut, End, Move, Tells, HangsUp, Takes, incarnation, IsNext}
 use Rattle.run_model.specs.Sessions.{AcceptsOpen, AcceptsKeepalive, Accepts, Passes, IsPassed}
-use Rattle.router_model.specs.Sides.{Side, NoMessage, HasUpdate, at_hand, carried, draft_of, handled, notification, without_front, comes, meets, obeys}
+use Rattle.router_model.specs.Sides.{Side, NoMessage, HasUpdate, at_hand, carried, draft_of, draft_message, notification, without_front, react, react_once, apply}
 use Rattle.router_runs.specs.Reading.{phase_of, phase_in, closing}
 use Rattle.router_runs.specs.Moving.{side_by}
 use Rattle.router_runs.specs.Doing.{Stands, Does, Hand}
@@ -67,8 +67,8 @@ module _ (laws : Laws) where
 
   -- a NOTIFICATION, of a version or not
   notice_hand : (c : Bool) (st : State) (o : Open) (s : Side) (m : Message) (a b : End Message) → at_hand (Ok m) ≡ NoMessage → phase_in st ≡ phase.Joined → Stands (at st s) a b → IsNext a b (Says s.link.epoch m)
-      → Hand (at st s) m (comes (OpenMsg o) NoMessage (draft_of (at st s).session (at st s).link) (cond c event.NotifMsgVerErr event.NotifMsg)) a b
-  unfolding comes meets obeys
+      → Hand (at st s) m (react (OpenMsg o) NoMessage (draft_of (at st s).session (at st s).link) (cond c event.NotifMsgVerErr event.NotifMsg)) a b
+  unfolding react react_once apply
   notice_hand c state.Idle o s m a b h j x next = absurd (cc j)
   notice_hand c state.Connect o s m a b h j x next = absurd (cc j)
   notice_hand c state.Active o s m a b h j x next = absurd (cc j)
@@ -81,8 +81,8 @@ module _ (laws : Laws) where
 
   -- the row of each state and message
   hand_row : (m : Message) (st : State) (o : Open) (s : Side) (a b : End Message) → phase_in st ≡ phase.Joined → Stands (at st s) a b → IsNext a b (Says s.link.epoch m)
-      → Hand (at st s) m (handled (OpenMsg o) (Ok m) (at st s)) a b
-  unfolding comes meets obeys
+      → Hand (at st s) m (draft_message (OpenMsg o) (Ok m) (at st s)) a b
+  unfolding react react_once apply
   hand_row m state.Idle o s a b j x next = absurd (cc j)
   hand_row m state.Connect o s a b j x next = absurd (cc j)
   hand_row m state.Active o s a b j x next = absurd (cc j)
@@ -90,7 +90,7 @@ module _ (laws : Laws) where
       let hit : (s.link.epoch == s.link.epoch) ≡ true = grind (arith, nat_tests) in
       let here : Side = at state.OpenSent s in
       record {
-        does = by_event laws here (carried NoMessage (without_front here) (handled (OpenMsg o) (Ok (OpenMsg p)) here)) a b (AcceptsOpen (OpenMsg p) AliveMsg) (Takes (Says s.link.epoch (OpenMsg p)) ∷ Tells AliveMsg ∷ []) x
+        does = by_event laws here (carried NoMessage (without_front here) (draft_message (OpenMsg o) (Ok (OpenMsg p)) here)) a b (AcceptsOpen (OpenMsg p) AliveMsg) (Takes (Says s.link.epoch (OpenMsg p)) ∷ Tells AliveMsg ∷ []) x
             (refl, own here a b x (OpenMsg p) next) (ap (λ i. Takes (Says i (OpenMsg p)) ∷ Tells AliveMsg ∷ []) (sym x.reads.epoch)) refl refl (rw hit refl) refl;
         joined = λ k. (refl, refl);
         apart = λ n. absurd (n refl);
@@ -105,7 +105,7 @@ module _ (laws : Laws) where
       let hit : (s.link.epoch == s.link.epoch) ≡ true = grind (arith, nat_tests) in
       let here : Side = at state.OpenConfirm s in
       record {
-        does = by_event laws here (carried NoMessage (without_front here) (handled (OpenMsg o) (Ok AliveMsg) here)) a b (AcceptsKeepalive AliveMsg) (Takes (Says s.link.epoch AliveMsg) ∷ []) x
+        does = by_event laws here (carried NoMessage (without_front here) (draft_message (OpenMsg o) (Ok AliveMsg) here)) a b (AcceptsKeepalive AliveMsg) (Takes (Says s.link.epoch AliveMsg) ∷ []) x
             (refl, own here a b x AliveMsg next) (ap (λ i. Takes (Says i AliveMsg) ∷ []) (sym x.reads.epoch)) refl refl (rw hit refl) refl;
         joined = λ k. (refl, refl);
         apart = λ n. absurd (n refl);
@@ -115,7 +115,7 @@ module _ (laws : Laws) where
       let hit : (s.link.epoch == s.link.epoch) ≡ true = grind (arith, nat_tests) in
       let here : Side = at state.Established s in
       record {
-        does = by_event laws here (carried (HasUpdate u) (without_front here) (handled (OpenMsg o) (Ok (UpdateMsg u)) here)) a b (Accepts (UpdateMsg u)) (Takes (Says s.link.epoch (UpdateMsg u)) ∷ []) x
+        does = by_event laws here (carried (HasUpdate u) (without_front here) (draft_message (OpenMsg o) (Ok (UpdateMsg u)) here)) a b (Accepts (UpdateMsg u)) (Takes (Says s.link.epoch (UpdateMsg u)) ∷ []) x
             (refl, own here a b x (UpdateMsg u) next) (ap (λ i. Takes (Says i (UpdateMsg u)) ∷ []) (sym x.reads.epoch)) refl refl (rw hit refl) refl;
         joined = λ k. (refl, refl);
         apart = λ n. absurd (n refl);
@@ -125,13 +125,13 @@ module _ (laws : Laws) where
       let hit : (s.link.epoch == s.link.epoch) ≡ true = grind (arith, nat_tests) in
       let here : Side = at state.Established s in
       record {
-        does = by_event laws here (carried NoMessage (without_front here) (handled (OpenMsg o) (Ok AliveMsg) here)) a b (Accepts AliveMsg) (Takes (Says s.link.epoch AliveMsg) ∷ []) x
+        does = by_event laws here (carried NoMessage (without_front here) (draft_message (OpenMsg o) (Ok AliveMsg) here)) a b (Accepts AliveMsg) (Takes (Says s.link.epoch AliveMsg) ∷ []) x
             (refl, own here a b x AliveMsg next) (ap (λ i. Takes (Says i AliveMsg) ∷ []) (sym x.reads.epoch)) refl refl (rw hit refl) refl;
         joined = λ k. (refl, refl);
         apart = λ n. absurd (n refl);
       }
 
-  pub handled_event : (m : Message) (o : Open) (s : Side) (a b : End Message) → Stands s a b → s.link.phase ≡ phase.Joined → IsNext a b (Says s.link.epoch m) → Hand s m (handled (OpenMsg o) (Ok m) s) a b
+  pub handled_event : (m : Message) (o : Open) (s : Side) (a b : End Message) → Stands s a b → s.link.phase ≡ phase.Joined → IsNext a b (Says s.link.epoch m) → Hand s m (draft_message (OpenMsg o) (Ok m) s) a b
   handled_event m o s a b x j next =
-      subst (λ (t : Side). Stands t a b → t.link.phase ≡ phase.Joined → IsNext a b (Says t.link.epoch m) → Hand t m (handled (OpenMsg o) (Ok m) t) a b) (at_own laws s a b x)
+      subst (λ (t : Side). Stands t a b → t.link.phase ≡ phase.Joined → IsNext a b (Says t.link.epoch m) → Hand t m (draft_message (OpenMsg o) (Ok m) t) a b) (at_own laws s a b x)
       (λ y k n. hand_row m s.session.state o s a b k y n) x j next

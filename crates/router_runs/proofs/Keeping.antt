@@ -19,7 +19,7 @@ use Rattle.outbox.specs.declared.item.What.TheVariants as item
 use Rattle.router_model.specs.Sides.{Side, is_up, front, marked}
 use Rattle.snap_marker.specs.Recordings.{MadeOffer}
 use Rattle.router_model.specs.Settings.{Setting, linked, prefixes}
-use Rattle.router_model.specs.State.{Router, rule_of, heard, path_from, route, untold, undecided, is_untold}
+use Rattle.router_model.specs.State.{Router, rule_of, heard, path_from, best_path, unadvertised, undecided, is_unadvertised}
 use Rattle.router_model.specs.Step.{Own, RouterEvent, Obeys, Ticks, Handles, Decides, Advertises, May, after, says, telling_to, telling_of, heeds, is_greater}
 use Rattle.router_model.specs.Laws.{all_passes}
 use Rattle.router_runs.specs.Runs.{Logged, LoggedStep, RunState, RunOrder, IsRunTo, logged_steps, new_logged, written_in}
@@ -79,9 +79,9 @@ module _ (laws : Laws) where
     stays_apart (alone (Obeys command.Restart)) may = rw none refl
     stays_apart (alone Ticks) may = rw none refl
     stays_apart (alone (Handles w)) may = (let miss = other_peer g u v w may.0 none in rw miss refl)
-    stays_apart (alone Decides) may = keeps_sides laws x (undecided g u x) (route g u x) v
+    stays_apart (alone Decides) may = keeps_sides laws x (undecided g u x) (best_path g u x) v
     stays_apart (alone (Advertises w)) may =
-        told_elsewhere g u v w x (untold g u x w) (other_peer g u v w (linked_untold (linked g.net u w) (is_up (x.sides w)) (find (is_untold g u x w) (prefixes g)) may) none)
+        told_elsewhere g u v w x (unadvertised g u x w) (other_peer g u v w (linked_untold (linked g.net u w) (is_up (x.sides w)) (find (is_unadvertised g u x w) (prefixes g)) may) none)
     stays_apart (puts w i) may = (let miss = other_peer g u v w may.0 none in rw miss refl)
     stays_apart (takes w (item.Dial e)) may = (let miss = other_peer g u v w may.0 none in rw miss refl)
     stays_apart (takes w (item.Piece e octets)) may = (let miss = other_peer g u v w may.0 none in rw miss refl)
@@ -114,10 +114,10 @@ module _ (laws : Laws) where
         at true false h = tt
         at false c h = tt
 
-    route_kept : (state : RunState) → Kept g state → (u : ℕ) → IsRouter g.net.routers u → (q : PrefixView) → IsNamed g.net.origins q → MayKeep g u (route g u (state.routers u).router q)
+    route_kept : (state : RunState) → Kept g state → (u : ℕ) → IsRouter g.net.routers u → (q : PrefixView) → IsNamed g.net.origins q → MayKeep g u (best_path g u (state.routers u).router q)
     route_kept state k u is q named =
         let x : Router = (state.routers u).router in
-        best_kept laws g (record { net = g.net; prefix = q; originated = x.originated q }) (path_from g u x q) u (route g u x q) (small_asn laws g set u is) (word_small state k u q)
+        best_kept laws g (record { net = g.net; prefix = q; originated = x.originated q }) (path_from g u x q) u (best_path g u x q) (small_asn laws g set u is) (word_small state k u q)
         (set.chooses u is q named (x.originated q) (path_from g u x q))
 
     first_kept : Kept g (runs.opening (λ u. new_logged g))

@@ -7,7 +7,7 @@ use Rattle.bgp_codec.specs.declared.message.Message.{Message}
 use Rattle.bgp_codec.specs.declared.message.Message.TheVariants.{OpenMsg, UpdateMsg, NoticeMsg, AliveMsg}
 use Rattle.bgp_codec.specs.declared.update.Update.{Update}
 use Rattle.link_epoch.specs.Ends as ends
-use Rattle.link_epoch.specs.Ends.{LinkView, is_awaited, next_number, dialled, hung_up, heard_by}
+use Rattle.link_epoch.specs.Ends.{LinkView, is_joinable, next_number, dialled, hung_up, heard_by}
 use Rattle.link_epoch.specs.declared.link_end.Phase.{Phase}
 use Rattle.link_epoch.specs.declared.link_end.Phase.TheVariants as phase
 use Rattle.run_model.specs.Links as links
@@ -22,7 +22,7 @@ use Rattle.router_runs.proofs.Entries.{updates-append, answers_true}
 
 module _ (laws : Laws) where
   -- an end that answers is a link end that is awaited
-  pub answers_is : (s : Side) (a : End Message) → Reads s a → answers a ≡ is_awaited s.link
+  pub answers_is : (s : Side) (a : End Message) → Reads s a → answers a ≡ is_joinable s.link
   answers_is s a r = rw (r.epoch, r.heard, r.is_shut) refl
 
   next_is : (s : Side) (a : End Message) → Reads s a → next_incarnation a ≡ next_number s.link
@@ -121,7 +121,7 @@ module _ (laws : Laws) where
       let now : greatest_dial (a.appended ++ Dial (next_incarnation a) ∷ []) ≡ next_incarnation a = omega (arith, greatest_dial-append laws a.appended (Dial (next_incarnation a) ∷ []), above) in
       record {
         reads = record {
-          phase = ap (λ i. cond i links.Joined links.Offered) (answers_is s a r) ∙ phase_by (is_awaited s.link);
+          phase = ap (λ i. cond i links.Joined links.Offered) (answers_is s a r) ∙ phase_by (is_joinable s.link);
           epoch = sym (now ∙ next_is s a r);
           heard = r.heard;
           is_shut = r.is_shut;

@@ -22,7 +22,7 @@ use Rattle.run_model.specs.Network.{alone, puts, takes, offers}
 use Rattle.router_model.specs.declared.command.Command.TheVariants as command
 use Rattle.outbox.specs.declared.item.What.TheVariants as item
 use Rattle.router_model.specs.Sides as sides
-use Rattle.router_model.specs.Sides.{Side, Draft, AtHand, NoMessage, HasFault, HasUpdate, at_hand, event_of, front, draft_of, notification, fits, does, does_all, obeys_all, joins, dials, shuts, met, expires, signed, handled, is_connecting, comes, meets, obeys}
+use Rattle.router_model.specs.Sides.{Side, Draft, AtHand, NoMessage, HasFault, HasUpdate, at_hand, event_of, front, draft_of, notification, fits, apply_once, apply_all_once, apply_all, is_joined_by, dials, shuts, draft_event, expires, draft_sign, draft_message, is_connecting, react, react_once, apply}
 use Rattle.router_model.specs.Settings.{Setting, linked}
 use Rattle.router_model.specs.State.{Router, rule_of, open_of}
 use Rattle.router_model.specs.Messages.{is_update}
@@ -62,7 +62,7 @@ module _ (own_open : Message) (is_open : is_update own_open ≡ false) where
   shuts_quiet a None s = s
   shuts_quiet a (Some n) s = quiet_append a.says (Shut n ∷ []) s tt
 
-  does_quiet : (g : AtHand) → NoFault g → (a : Draft) → SaysNoUpdate a.says → (x : Action) → SaysNoUpdate (does own_open g a x).says
+  does_quiet : (g : AtHand) → NoFault g → (a : Draft) → SaysNoUpdate a.says → (x : Action) → SaysNoUpdate (apply_once own_open g a x).says
   does_quiet g n a s action.Dial = dials_quiet (fits (next_number a.link)) a refl s
   does_quiet g n a s action.SendOpen = tells_quiet a own_open s is_open
   does_quiet g n a s action.SendAlive = tells_quiet a AliveMsg s refl
@@ -75,44 +75,44 @@ module _ (own_open : Message) (is_open : is_update own_open ≡ false) where
   does_quiet g n a s action.Up = s
   does_quiet g n a s action.Down = s
 
-  does_all_quiet : (xs : List Action) (g : AtHand) → NoFault g → (a : Draft) → SaysNoUpdate a.says → SaysNoUpdate (does_all own_open g a xs).says
+  does_all_quiet : (xs : List Action) (g : AtHand) → NoFault g → (a : Draft) → SaysNoUpdate a.says → SaysNoUpdate (apply_all_once own_open g a xs).says
   does_all_quiet [] g n a s = s
-  does_all_quiet (x ∷ xs) g n a s = does_all_quiet xs g n (does own_open g a x) (does_quiet g n a s x)
+  does_all_quiet (x ∷ xs) g n a s = does_all_quiet xs g n (apply_once own_open g a x) (does_quiet g n a s x)
 
-  obeys_quiet : (c : Bool) (x : Action) (g : AtHand) → NoFault g → (a : Draft) → joins a x ≡ c → SaysNoUpdate a.says → SaysNoUpdate (obeys own_open g a x).says
-  unfolding obeys meets
+  obeys_quiet : (c : Bool) (x : Action) (g : AtHand) → NoFault g → (a : Draft) → is_joined_by a x ≡ c → SaysNoUpdate a.says → SaysNoUpdate (apply own_open g a x).says
+  unfolding apply react_once
   obeys_quiet true x g n a is s =
-      rw is (does_all_quiet (on_event (does own_open g a x).session event.TcpCrAcked).actions g n
-      (record (does own_open g a x) { session = (on_event (does own_open g a x).session event.TcpCrAcked).session }) (does_quiet g n a s x))
+      rw is (does_all_quiet (on_event (apply_once own_open g a x).session event.TcpCrAcked).actions g n
+      (record (apply_once own_open g a x) { session = (on_event (apply_once own_open g a x).session event.TcpCrAcked).session }) (does_quiet g n a s x))
   obeys_quiet false x g n a is s = rw is (does_quiet g n a s x)
 
-  obeys_all_quiet : (xs : List Action) (g : AtHand) → NoFault g → (a : Draft) → SaysNoUpdate a.says → SaysNoUpdate (obeys_all own_open g a xs).says
+  obeys_all_quiet : (xs : List Action) (g : AtHand) → NoFault g → (a : Draft) → SaysNoUpdate a.says → SaysNoUpdate (apply_all own_open g a xs).says
   obeys_all_quiet [] g n a s = s
-  obeys_all_quiet (x ∷ xs) g n a s = obeys_all_quiet xs g n (obeys own_open g a x) (obeys_quiet (joins a x) x g n a refl s)
+  obeys_all_quiet (x ∷ xs) g n a s = obeys_all_quiet xs g n (apply own_open g a x) (obeys_quiet (is_joined_by a x) x g n a refl s)
 
-  pub comes_quiet : (g : AtHand) → NoFault g → (a : Draft) (e : FsmEvent) → SaysNoUpdate a.says → SaysNoUpdate (comes own_open g a e).says
-  unfolding comes
+  pub comes_quiet : (g : AtHand) → NoFault g → (a : Draft) (e : FsmEvent) → SaysNoUpdate a.says → SaysNoUpdate (react own_open g a e).says
+  unfolding react
   comes_quiet g n a e s = obeys_all_quiet (on_event a.session e).actions g n (record a { session = (on_event a.session e).session }) s
 
   pub expires_quiet : (a : Draft) (e : Option FsmEvent) → SaysNoUpdate a.says → SaysNoUpdate (expires own_open a e).says
   expires_quiet a None s = s
   expires_quiet a (Some e) s = comes_quiet NoMessage tt a e s
 
-  connecting_quiet : (c : Bool) (a : Draft) → SaysNoUpdate a.says → SaysNoUpdate (cond c (comes own_open NoMessage (dials a) event.TcpConnectionConfirmed) a).says
+  connecting_quiet : (c : Bool) (a : Draft) → SaysNoUpdate a.says → SaysNoUpdate (cond c (react own_open NoMessage (dials a) event.TcpConnectionConfirmed) a).says
   connecting_quiet true a s = comes_quiet NoMessage tt (dials a) event.TcpConnectionConfirmed (dials_quiet (fits (next_number a.link)) a refl s)
   connecting_quiet false a s = s
 
-  answers_quiet : (a : Draft) (h : Heard) → SaysNoUpdate a.says → SaysNoUpdate (sides.answers own_open a h).says
-  unfolding sides.answers
+  answers_quiet : (a : Draft) (h : Heard) → SaysNoUpdate a.says → SaysNoUpdate (sides.react_to_sign own_open a h).says
+  unfolding sides.react_to_sign
   answers_quiet a heard.Quiet s = s
   answers_quiet a heard.Joined s = comes_quiet NoMessage tt a event.TcpCrAcked s
   answers_quiet a (heard.Offered n) s = connecting_quiet (is_connecting a.session.state) a s
   answers_quiet a heard.Closed s = comes_quiet NoMessage tt a event.TcpConnectionFails s
 
-  pub signed_quiet : (s : Side) (x : Sign) → SaysNoUpdate (signed own_open s x).says
+  pub signed_quiet : (s : Side) (x : Sign) → SaysNoUpdate (draft_sign own_open s x).says
   signed_quiet s x = answers_quiet (draft_of s.session (heard_by s.link x)) (meaning_of s.link x) tt
 
-  pub handled_quiet : (s : Side) (m : Message) → SaysNoUpdate (handled own_open (Ok m) s).says
+  pub handled_quiet : (s : Side) (m : Message) → SaysNoUpdate (draft_message own_open (Ok m) s).says
   handled_quiet s m = comes_quiet (at_hand (Ok m)) (none m) (draft_of s.session s.link) (event_of (Ok m)) tt
     where
       none : (k : Message) → NoFault (at_hand (Ok k))
@@ -134,7 +134,7 @@ IsOfSessions (takes w (item.Shut e)) = Unit {0}
 IsOfSessions _ = ⊥
 
 module _ (g : Setting) (u : ℕ) (x : Router) where
-  come : (a : Draft) (e : FsmEvent) → SaysNoUpdate a.says → SaysNoUpdate (comes (open_of g.net u) NoMessage a e).says
+  come : (a : Draft) (e : FsmEvent) → SaysNoUpdate a.says → SaysNoUpdate (react (open_of g.net u) NoMessage a e).says
   come a e s = comes_quiet (open_of g.net u) refl NoMessage tt a e s
 
   -- what is said to peer v, where what stands in front of octets held is a message
@@ -142,7 +142,7 @@ module _ (g : Setting) (u : ℕ) (x : Router) where
   says_quietly (alone (Obeys (command.Start w))) is reads v = quiet_where (v == w) (meets_at g u x w ManualStart).says (come (draft_of (x.sides w).session (x.sides w).link) ManualStart tt)
   says_quietly (alone (Obeys (command.Stop w))) is reads v = quiet_where (v == w) (meets_at g u x w ManualStop).says (come (draft_of (x.sides w).session (x.sides w).link) ManualStop tt)
   says_quietly (alone (Obeys (command.Reset w))) is reads v =
-      quiet_where (v == w) (resets_at g u x w).says (come (met (open_of g.net u) (x.sides w) ManualStop) ManualStart (come (draft_of (x.sides w).session (x.sides w).link) ManualStop tt))
+      quiet_where (v == w) (resets_at g u x w).says (come (draft_event (open_of g.net u) (x.sides w) ManualStop) ManualStart (come (draft_of (x.sides w).session (x.sides w).link) ManualStop tt))
   says_quietly (alone (Obeys (command.Originate q))) is reads v = tt
   says_quietly (alone (Obeys (command.Withdraw q))) is reads v = tt
   says_quietly (alone (Obeys (command.Snapshot s))) is reads v = absurd is
@@ -152,7 +152,7 @@ module _ (g : Setting) (u : ℕ) (x : Router) where
   says_quietly (alone (Handles w)) is reads v =
       quiet_where (v == w) (handled_at g u x w).says
       (let k = reads w refl in
-      subst (λ (r : Result Message Fault). SaysNoUpdate (handled (open_of g.net u) r (x.sides w)).says) (sym k.1) (handled_quiet (open_of g.net u) refl (x.sides w) k.0))
+      subst (λ (r : Result Message Fault). SaysNoUpdate (draft_message (open_of g.net u) r (x.sides w)).says) (sym k.1) (handled_quiet (open_of g.net u) refl (x.sides w) k.0))
   says_quietly (alone Decides) is reads v = tt
   says_quietly (alone (Advertises w)) is reads v = absurd is
   says_quietly (puts w i) is reads v = tt

@@ -7,14 +7,14 @@ use Rattle.bgp_codec.specs.declared.message.Message.{Message}
 use Rattle.bgp_codec.specs.declared.message.Message.TheVariants.{OpenMsg}
 use Rattle.bgp_codec.specs.declared.open.Open.{Open}
 use Rattle.bgp_codec.specs.declared.update.Update.{Update}
-use Rattle.link_epoch.specs.Ends.{LinkView, is_awaited, next_number, dialled}
+use Rattle.link_epoch.specs.Ends.{LinkView, is_joinable, next_number, dialled}
 use Rattle.link_epoch.specs.declared.link_end.Phase.TheVariants as phase
 use Rattle.session_fsm.specs.Table.{SessionView}
 use Rattle.session_fsm.specs.declared.state.State.{State}
 use Rattle.session_fsm.specs.declared.state.State.TheVariants as state
 use Rattle.session_fsm.specs.declared.event.FsmEvent.TheVariants.{ManualStart, ManualStop}
 use Rattle.run_model.specs.Links.{Entry, Dial, Says, End}
-use Rattle.router_model.specs.Sides.{acted_with, fits, Side, Draft, NoMessage, carried, draft_of, met, reset, is_established, comes, meets, obeys}
+use Rattle.router_model.specs.Sides.{acted_with, fits, Side, Draft, NoMessage, carried, draft_of, draft_event, draft_reset, is_established, react, react_once, apply}
 use Rattle.router_runs.specs.Reading.{phase_in, state_of}
 use Rattle.router_runs.specs.Doing.{Stands, Does, Row}
 use Rattle.router_runs.proofs.Doing.{no_event, same_up, then_does}
@@ -25,18 +25,18 @@ use Rattle.router_runs.proofs.Lower.{Laws}
 
 module _ (laws : Laws) where
   record Restarts (o : Open) (d e : Draft) : Type 0 where
-    session : e.session ≡ (comes (OpenMsg o) NoMessage (draft_of d.session d.link) ManualStart).session
-    link : e.link ≡ (comes (OpenMsg o) NoMessage (draft_of d.session d.link) ManualStart).link
+    session : e.session ≡ (react (OpenMsg o) NoMessage (draft_of d.session d.link) ManualStart).session
+    link : e.link ≡ (react (OpenMsg o) NoMessage (draft_of d.session d.link) ManualStart).link
     dials : e.link ≡ dialled d.link
-    says : e.says ≡ d.says ++ (comes (OpenMsg o) NoMessage (draft_of d.session d.link) ManualStart).says
+    says : e.says ≡ d.says ++ (react (OpenMsg o) NoMessage (draft_of d.session d.link) ManualStart).says
     drops : e.drops ≡ d.drops
-    over : (comes (OpenMsg o) NoMessage (draft_of d.session d.link) ManualStart).overflows ≡ false
-    down : is_established (comes (OpenMsg o) NoMessage (draft_of d.session d.link) ManualStart).session.state ≡ false
+    over : (react (OpenMsg o) NoMessage (draft_of d.session d.link) ManualStart).overflows ≡ false
+    down : is_established (react (OpenMsg o) NoMessage (draft_of d.session d.link) ManualStart).session.state ≡ false
 
-  from_idle : (c f : Bool) (o : Open) (d : Draft) (session : SessionView) → is_awaited d.link ≡ c → fits (next_number d.link) ≡ f
-      → (comes (OpenMsg o) NoMessage (record d { session = record session { state = state.Idle } }) ManualStart).overflows ≡ false
-      → Restarts o (record d { session = record session { state = state.Idle } }) (comes (OpenMsg o) NoMessage (record d { session = record session { state = state.Idle } }) ManualStart)
-  unfolding comes meets obeys
+  from_idle : (c f : Bool) (o : Open) (d : Draft) (session : SessionView) → is_joinable d.link ≡ c → fits (next_number d.link) ≡ f
+      → (react (OpenMsg o) NoMessage (record d { session = record session { state = state.Idle } }) ManualStart).overflows ≡ false
+      → Restarts o (record d { session = record session { state = state.Idle } }) (react (OpenMsg o) NoMessage (record d { session = record session { state = state.Idle } }) ManualStart)
+  unfolding react react_once apply
   from_idle true true o d session aw fit over =
       let low = rw aw at fit in
       record { session = rw (aw, low) refl; link = rw (aw, low) refl; dials = rw (aw, low) refl; says = rw (aw, low) (append_assoc d.says (Dial d.link.heard ∷ []) (Says d.link.heard (OpenMsg o) ∷ [])); drops = rw (aw, low) refl; over = rw (aw, low) refl; down = rw (aw, low) refl }
@@ -49,12 +49,12 @@ module _ (laws : Laws) where
   -- what a stop leaves
   record Stopped (st : State) (s : Side) (d : Draft) : Type 0 where
     idle : record d { session = record d.session { state = state.Idle } } ≡ d
-    link : is_awaited d.link ≡ is_awaited s.link
+    link : is_joinable d.link ≡ is_joinable s.link
     drops : phase_in st ≡ phase.Joined → d.drops ≡ true
     down : is_established d.session.state ≡ false
 
-  stopped_is : (st : State) (o : Open) (s : Side) → Stopped st s (met (OpenMsg o) (at st s) ManualStop)
-  unfolding comes meets obeys
+  stopped_is : (st : State) (o : Open) (s : Side) → Stopped st s (draft_event (OpenMsg o) (at st s) ManualStop)
+  unfolding react react_once apply
   stopped_is state.Idle o s = record { idle = refl; link = refl; drops = λ j. absurd (cc j); down = refl }
   stopped_is state.Connect o s = record { idle = refl; link = refl; drops = λ j. absurd (cc j); down = refl }
   stopped_is state.Active o s = record { idle = refl; link = refl; drops = λ j. absurd (cc j); down = refl }
@@ -70,7 +70,7 @@ module _ (laws : Laws) where
   joined_by true h = refl
   joined_by false h = absurd (cc h)
 
-  not_awaited : (l : LinkView) → l.heard ≡ l.epoch → is_awaited l ≡ true → ⊥
+  not_awaited : (l : LinkView) → l.heard ≡ l.epoch → is_joinable l ≡ true → ⊥
   not_awaited l same h = at (nat_lt l.epoch l.heard) refl h
     where
       at : (c : Bool) → nat_lt l.epoch l.heard ≡ c → (nat_lt l.epoch l.heard && not l.heard_is_shut) ≡ true → ⊥
@@ -81,22 +81,22 @@ module _ (laws : Laws) where
   does_like s t r new more a b d state link acted sent same =
       subst (λ w. Does s r w [] a b) (append-nil new ∙ same) (then_does laws s t r new [] [] [] a b (inr (inl (same_up laws t r (ap state_of state)))) d (λ c appends takes y. no_event laws t r c b y (ap state_of state) link acted sent))
 
-  reset_row : (o : Open) (s : Side) (a b : End Message) → Stands s a b → (s.link.phase ≡ phase.Joined → s.link.heard ≡ s.link.epoch) → Stopped s.session.state s (met (OpenMsg o) s ManualStop) → (reset (OpenMsg o) s).overflows ≡ false
-      → Row s NoMessage (reset (OpenMsg o) s) a b
+  reset_row : (o : Open) (s : Side) (a b : End Message) → Stands s a b → (s.link.phase ≡ phase.Joined → s.link.heard ≡ s.link.epoch) → Stopped s.session.state s (draft_event (OpenMsg o) s ManualStop) → (draft_reset (OpenMsg o) s).overflows ≡ false
+      → Row s NoMessage (draft_reset (OpenMsg o) s) a b
   reset_row o s a b x own stopped over =
-      let d : Draft = met (OpenMsg o) s ManualStop in
-      let k : Restarts o d (reset (OpenMsg o) s) =
-      subst (λ (i : Draft). (comes (OpenMsg o) NoMessage i ManualStart).overflows ≡ false → Restarts o i (comes (OpenMsg o) NoMessage i ManualStart)) stopped.idle
-      (λ over'. from_idle (is_awaited d.link) (fits (next_number d.link)) o d d.session refl refl over') over in
+      let d : Draft = draft_event (OpenMsg o) s ManualStop in
+      let k : Restarts o d (draft_reset (OpenMsg o) s) =
+      subst (λ (i : Draft). (react (OpenMsg o) NoMessage i ManualStart).overflows ≡ false → Restarts o i (react (OpenMsg o) NoMessage i ManualStart)) stopped.idle
+      (λ over'. from_idle (is_joinable d.link) (fits (next_number d.link)) o d d.session refl refl over') over in
       let mid : Side = carried NoMessage s d in
       let first = stop_event laws o s a b x in
-      let next : Draft = met (OpenMsg o) mid ManualStart in
-      let awaited : (reset (OpenMsg o) s).link.phase ≡ phase.Joined → is_awaited s.link ≡ true = λ j. sym stopped.link ∙ joined_by (is_awaited d.link) (ap (λ l. l.phase) (sym k.dials) ∙ j) in
+      let next : Draft = draft_event (OpenMsg o) mid ManualStart in
+      let awaited : (draft_reset (OpenMsg o) s).link.phase ≡ phase.Joined → is_joinable s.link ≡ true = λ j. sym stopped.link ∙ joined_by (is_joinable d.link) (ap (λ l. l.phase) (sym k.dials) ∙ j) in
       record {
-        does = does_like s (carried NoMessage mid next) (carried NoMessage s (reset (OpenMsg o) s)) (d.says ++ next.says) (reset (OpenMsg o) s).says a b
+        does = does_like s (carried NoMessage mid next) (carried NoMessage s (draft_reset (OpenMsg o) s)) (d.says ++ next.says) (draft_reset (OpenMsg o) s).says a b
             (then_does laws s mid (carried NoMessage mid next) d.says [] next.says [] a b (inr (inr (stopped.down, k.down))) first.does (λ c appends takes y. (own_event laws ManualStart tt o mid c b y k.over).does))
             (ap (λ i. i.state) (sym k.session)) (sym k.link)
-            (acted_none next.acts next.link.epoch mid.acted ∙ (acted_none d.acts d.link.epoch s.acted ∙ sym (acted_none (reset (OpenMsg o) s).acts (reset (OpenMsg o) s).link.epoch s.acted))) refl (sym k.says);
+            (acted_none next.acts next.link.epoch mid.acted ∙ (acted_none d.acts d.link.epoch s.acted ∙ sym (acted_none (draft_reset (OpenMsg o) s).acts (draft_reset (OpenMsg o) s).link.epoch s.acted))) refl (sym k.says);
         joined = λ j. inr (
           (λ was. not_awaited s.link (own was) (awaited j)),
           answers_is laws s a x.reads ∙ awaited j,
@@ -108,21 +108,21 @@ module _ (laws : Laws) where
       }
 
   -- behind it the session is not up
-  pub reset_down : (o : Open) (s : Side) (a b : End Message) → Stands s a b → (reset (OpenMsg o) s).overflows ≡ false → is_established (reset (OpenMsg o) s).session.state ≡ false
+  pub reset_down : (o : Open) (s : Side) (a b : End Message) → Stands s a b → (draft_reset (OpenMsg o) s).overflows ≡ false → is_established (draft_reset (OpenMsg o) s).session.state ≡ false
   reset_down o s a b x over =
-      let d : Draft = met (OpenMsg o) s ManualStop in
-      let stopped = subst (λ (t : Side). Stopped s.session.state t (met (OpenMsg o) t ManualStop)) (at_own laws s a b x) (like s.session.state s) in
-      let k : Restarts o d (reset (OpenMsg o) s) =
-      subst (λ (i : Draft). (comes (OpenMsg o) NoMessage i ManualStart).overflows ≡ false → Restarts o i (comes (OpenMsg o) NoMessage i ManualStart)) stopped.idle
-      (λ over'. from_idle (is_awaited d.link) (fits (next_number d.link)) o d d.session refl refl over') over in
+      let d : Draft = draft_event (OpenMsg o) s ManualStop in
+      let stopped = subst (λ (t : Side). Stopped s.session.state t (draft_event (OpenMsg o) t ManualStop)) (at_own laws s a b x) (like s.session.state s) in
+      let k : Restarts o d (draft_reset (OpenMsg o) s) =
+      subst (λ (i : Draft). (react (OpenMsg o) NoMessage i ManualStart).overflows ≡ false → Restarts o i (react (OpenMsg o) NoMessage i ManualStart)) stopped.idle
+      (λ over'. from_idle (is_joinable d.link) (fits (next_number d.link)) o d d.session refl refl over') over in
       ap (λ (i : SessionView). is_established i.state) k.session ∙ k.down
     where
-      like : (st : State) (t : Side) → Stopped st (at st t) (met (OpenMsg o) (at st t) ManualStop)
+      like : (st : State) (t : Side) → Stopped st (at st t) (draft_event (OpenMsg o) (at st t) ManualStop)
       like st t = (let i = stopped_is st o t in record { idle = i.idle; link = i.link; drops = i.drops; down = i.down })
 
-  pub reset_event : (o : Open) (s : Side) (a b : End Message) → Stands s a b → (s.link.phase ≡ phase.Joined → s.link.heard ≡ s.link.epoch) → (reset (OpenMsg o) s).overflows ≡ false → Row s NoMessage (reset (OpenMsg o) s) a b
+  pub reset_event : (o : Open) (s : Side) (a b : End Message) → Stands s a b → (s.link.phase ≡ phase.Joined → s.link.heard ≡ s.link.epoch) → (draft_reset (OpenMsg o) s).overflows ≡ false → Row s NoMessage (draft_reset (OpenMsg o) s) a b
   reset_event o s a b x own over =
-      reset_row o s a b x own (subst (λ (t : Side). Stopped s.session.state t (met (OpenMsg o) t ManualStop)) (at_own laws s a b x) (like s.session.state s)) over
+      reset_row o s a b x own (subst (λ (t : Side). Stopped s.session.state t (draft_event (OpenMsg o) t ManualStop)) (at_own laws s a b x) (like s.session.state s)) over
     where
-      like : (st : State) (t : Side) → Stopped st (at st t) (met (OpenMsg o) (at st t) ManualStop)
+      like : (st : State) (t : Side) → Stopped st (at st t) (draft_event (OpenMsg o) (at st t) ManualStop)
       like st t = (let k = stopped_is st o t in record { idle = k.idle; link = k.link; drops = k.drops; down = k.down })

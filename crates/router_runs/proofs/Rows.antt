@@ -3,7 +3,7 @@ use Rattle.std.proofs.Common.{◌≡◌, ◌≢◌, ℕ, Bool, true, false, cond
 use Rattle.bgp_codec.specs.declared.message.Message.{Message}
 use Rattle.bgp_codec.specs.declared.message.Message.TheVariants.{OpenMsg, AliveMsg}
 use Rattle.bgp_codec.specs.declared.open.Open.{Open}
-use Rattle.link_epoch.specs.Ends.{is_awaited, next_number, dialled, hung_up}
+use Rattle.link_epoch.specs.Ends.{is_joinable, next_number, dialled, hung_up}
 use Rattle.link_epoch.specs.declared.link_end.Phase.{Phase}
 use Rattle.link_epoch.specs.declared.link_end.Phase.TheVariants as phase
 use Rattle.session_fsm.specs.Table as sessions
@@ -17,7 +17,7 @@ use Rattle.run_model.specs.Links as links
 use Rattle.run_model.specs.Links.{Entry, Dial, Says, Mark, Shut, End, Move, Dials, Tells, Marks, HangsUp, Takes, answers}
 use Rattle.run_model.specs.Sessions as model
 use Rattle.run_model.specs.Sessions.{Starts, Retries, Closes, Speaks, Fails, moves_of, hanging}
-use Rattle.router_model.specs.Sides.{Side, Draft, AtHand, NoMessage, draft_of, carried, met, notification, fits, comes, meets, obeys}
+use Rattle.router_model.specs.Sides.{Side, Draft, AtHand, NoMessage, draft_of, carried, draft_event, notification, fits, react, react_once, apply}
 use Rattle.router_runs.specs.Reading.{state_of, phase_of, phase_in, closing}
 use Rattle.router_runs.proofs.Closes.{one_message, not_idle}
 use Rattle.router_runs.specs.Doing.{Stands, Does, Row}
@@ -129,7 +129,7 @@ module _ (laws : Laws) where
   not_joined true is h = cc is
   not_joined false is h = cc h
 
-  pub dialled_row : (c : Bool) (own_open : Open) (s : Side) (session : SessionView) (drops : Bool) (a b : End Message) → is_awaited s.link ≡ c → Stands s a b
+  pub dialled_row : (c : Bool) (own_open : Open) (s : Side) (session : SessionView) (drops : Bool) (a b : End Message) → is_joinable s.link ≡ c → Stands s a b
       → model.MayRestart (state_of s.session.state) → s.link.phase ≢ phase.Joined → session.state ≡ state.Connect
       → Row s NoMessage (dialled_draft c own_open s session drops) a b
   dialled_row true own_open s session drops a b is x may apart connect =
@@ -143,7 +143,7 @@ module _ (laws : Laws) where
       let no : answers a ≡ false = answers_is laws s a x.reads ∙ is in
       record {
         does = by_event laws s (carried NoMessage s (dialled_draft false own_open s session drops)) a b (Starts (OpenMsg own_open)) (Dials ∷ []) x may (rw no refl) (rw no (sym (ap state_of connect))) refl refl refl;
-        joined = λ j. absurd (not_joined (is_awaited s.link) is j);
+        joined = λ j. absurd (not_joined (is_joinable s.link) is j);
         apart = λ n. inl apart;
       }
 
@@ -168,7 +168,7 @@ module _ (laws : Laws) where
     overflows = false;
   }
 
-  pub retried_row : (c : Bool) (own_open : Open) (s : Side) (session : SessionView) (a b : End Message) → is_awaited s.link ≡ c → Stands s a b
+  pub retried_row : (c : Bool) (own_open : Open) (s : Side) (session : SessionView) (a b : End Message) → is_joinable s.link ≡ c → Stands s a b
       → s.session.state ≡ state.Connect → s.link.phase ≢ phase.Joined → session.state ≡ state.Connect
       → Row s NoMessage (retried_draft c own_open s session) a b
   retried_row true own_open s session a b is x was apart connect =
@@ -182,7 +182,7 @@ module _ (laws : Laws) where
       let no : answers a ≡ false = answers_is laws s a x.reads ∙ is in
       record {
         does = by_event laws s (carried NoMessage s (retried_draft false own_open s session)) a b (Retries (OpenMsg own_open)) (HangsUp ∷ Dials ∷ []) x (ap state_of was) (rw no refl) (rw no (sym (ap state_of connect))) refl refl refl;
-        joined = λ j. absurd (not_joined (is_awaited s.link) is j);
+        joined = λ j. absurd (not_joined (is_joinable s.link) is j);
         apart = λ n. inl apart;
       }
 
@@ -210,45 +210,45 @@ module _ (laws : Laws) where
   IsOwn _ = ⊥
 
   -- a dial whose number fits, computed
-  dial_is : (c f : Bool) (o : Open) (s : Side) → is_awaited s.link ≡ c → fits (next_number s.link) ≡ f → (met (OpenMsg o) (at state.Idle s) event.ManualStart).overflows ≡ false
-      → met (OpenMsg o) (at state.Idle s) event.ManualStart ≡ dialled_draft c o (at state.Idle s) (sessions.starting (at state.Idle s).session) false
-  unfolding comes meets obeys
+  dial_is : (c f : Bool) (o : Open) (s : Side) → is_joinable s.link ≡ c → fits (next_number s.link) ≡ f → (draft_event (OpenMsg o) (at state.Idle s) event.ManualStart).overflows ≡ false
+      → draft_event (OpenMsg o) (at state.Idle s) event.ManualStart ≡ dialled_draft c o (at state.Idle s) (sessions.starting (at state.Idle s).session) false
+  unfolding react react_once apply
   dial_is true true o s aw fit over = let low = rw aw at fit in rw (aw, low) refl
   dial_is false true o s aw fit over = let low = rw aw at fit in rw (aw, low) refl
   dial_is true false o s aw fit over = absurd (let low = rw aw at fit in let k = rw (aw, low) at over in cc k)
   dial_is false false o s aw fit over = absurd (let low = rw aw at fit in let k = rw (aw, low) at over in cc k)
 
-  dial_again : (c f : Bool) (o : Open) (s : Side) → is_awaited s.link ≡ c → fits (next_number s.link) ≡ f → (met (OpenMsg o) (at state.Active s) event.ConnectRetryTimerExpires).overflows ≡ false
-      → met (OpenMsg o) (at state.Active s) event.ConnectRetryTimerExpires ≡ dialled_draft c o (at state.Active s) (sessions.dialling (at state.Active s).session) false
-  unfolding comes meets obeys
+  dial_again : (c f : Bool) (o : Open) (s : Side) → is_joinable s.link ≡ c → fits (next_number s.link) ≡ f → (draft_event (OpenMsg o) (at state.Active s) event.ConnectRetryTimerExpires).overflows ≡ false
+      → draft_event (OpenMsg o) (at state.Active s) event.ConnectRetryTimerExpires ≡ dialled_draft c o (at state.Active s) (sessions.dialling (at state.Active s).session) false
+  unfolding react react_once apply
   dial_again true true o s aw fit over = let low = rw aw at fit in rw (aw, low) refl
   dial_again false true o s aw fit over = let low = rw aw at fit in rw (aw, low) refl
   dial_again true false o s aw fit over = absurd (let low = rw aw at fit in let k = rw (aw, low) at over in cc k)
   dial_again false false o s aw fit over = absurd (let low = rw aw at fit in let k = rw (aw, low) at over in cc k)
 
-  retry_is : (c f : Bool) (o : Open) (s : Side) → is_awaited s.link ≡ c → fits (next_number s.link) ≡ f → (met (OpenMsg o) (at state.Connect s) event.ConnectRetryTimerExpires).overflows ≡ false
-      → met (OpenMsg o) (at state.Connect s) event.ConnectRetryTimerExpires ≡ retried_draft c o (at state.Connect s) (sessions.dialling (at state.Connect s).session)
-  unfolding comes meets obeys
+  retry_is : (c f : Bool) (o : Open) (s : Side) → is_joinable s.link ≡ c → fits (next_number s.link) ≡ f → (draft_event (OpenMsg o) (at state.Connect s) event.ConnectRetryTimerExpires).overflows ≡ false
+      → draft_event (OpenMsg o) (at state.Connect s) event.ConnectRetryTimerExpires ≡ retried_draft c o (at state.Connect s) (sessions.dialling (at state.Connect s).session)
+  unfolding react react_once apply
   retry_is true true o s aw fit over = let low = rw aw at fit in rw (aw, low) refl
   retry_is false true o s aw fit over = let low = rw aw at fit in rw (aw, low) refl
   retry_is true false o s aw fit over = absurd (let low = rw aw at fit in let k = rw (aw, low) at over in cc k)
   retry_is false false o s aw fit over = absurd (let low = rw aw at fit in let k = rw (aw, low) at over in cc k)
 
   -- the row of each state and event
-  own_row : (e : FsmEvent) → IsOwn e → (st : State) (o : Open) (s : Side) (a b : End Message) → Stands (at st s) a b → (met (OpenMsg o) (at st s) e).overflows ≡ false
-      → Row (at st s) NoMessage (met (OpenMsg o) (at st s) e) a b
-  unfolding comes meets obeys
+  own_row : (e : FsmEvent) → IsOwn e → (st : State) (o : Open) (s : Side) (a b : End Message) → Stands (at st s) a b → (draft_event (OpenMsg o) (at st s) e).overflows ≡ false
+      → Row (at st s) NoMessage (draft_event (OpenMsg o) (at st s) e) a b
+  unfolding react react_once apply
   own_row event.ManualStart own state.Idle o s a b x over =
-      subst (λ (d : Draft). Row (at state.Idle s) NoMessage d a b) (sym (dial_is (is_awaited s.link) (fits (next_number s.link)) o s refl refl over))
-      (dialled_row (is_awaited s.link) o (at state.Idle s) (sessions.starting (at state.Idle s).session) false a b refl x tt (λ j. cc j) refl)
+      subst (λ (d : Draft). Row (at state.Idle s) NoMessage d a b) (sym (dial_is (is_joinable s.link) (fits (next_number s.link)) o s refl refl over))
+      (dialled_row (is_joinable s.link) o (at state.Idle s) (sessions.starting (at state.Idle s).session) false a b refl x tt (λ j. cc j) refl)
   own_row event.ManualStart own state.Connect o s a b x over = quiet_row (at state.Connect s) (at state.Connect s).session a b x refl
   own_row event.ManualStart own state.Active o s a b x over = quiet_row (at state.Active s) (at state.Active s).session a b x refl
   own_row event.ManualStart own state.OpenSent o s a b x over = quiet_row (at state.OpenSent s) (at state.OpenSent s).session a b x refl
   own_row event.ManualStart own state.OpenConfirm o s a b x over = quiet_row (at state.OpenConfirm s) (at state.OpenConfirm s).session a b x refl
   own_row event.ManualStart own state.Established o s a b x over = quiet_row (at state.Established s) (at state.Established s).session a b x refl
   own_row event.AutomaticStart own state.Idle o s a b x over =
-      subst (λ (d : Draft). Row (at state.Idle s) NoMessage d a b) (sym (dial_is (is_awaited s.link) (fits (next_number s.link)) o s refl refl over))
-      (dialled_row (is_awaited s.link) o (at state.Idle s) (sessions.starting (at state.Idle s).session) false a b refl x tt (λ j. cc j) refl)
+      subst (λ (d : Draft). Row (at state.Idle s) NoMessage d a b) (sym (dial_is (is_joinable s.link) (fits (next_number s.link)) o s refl refl over))
+      (dialled_row (is_joinable s.link) o (at state.Idle s) (sessions.starting (at state.Idle s).session) false a b refl x tt (λ j. cc j) refl)
   own_row event.AutomaticStart own state.Connect o s a b x over = quiet_row (at state.Connect s) (at state.Connect s).session a b x refl
   own_row event.AutomaticStart own state.Active o s a b x over = quiet_row (at state.Active s) (at state.Active s).session a b x refl
   own_row event.AutomaticStart own state.OpenSent o s a b x over = quiet_row (at state.OpenSent s) (at state.OpenSent s).session a b x refl
@@ -262,11 +262,11 @@ module _ (laws : Laws) where
   own_row event.ManualStop own state.Established o s a b x over = told_row NoMessage (at state.Established s) (sessions.stopped (at state.Established s).session) (Some s.link.epoch) CEASE a b x refl (λ i. cc i) refl
   own_row event.ConnectRetryTimerExpires own state.Idle o s a b x over = quiet_row (at state.Idle s) (at state.Idle s).session a b x refl
   own_row event.ConnectRetryTimerExpires own state.Connect o s a b x over =
-      subst (λ (d : Draft). Row (at state.Connect s) NoMessage d a b) (sym (retry_is (is_awaited s.link) (fits (next_number s.link)) o s refl refl over))
-      (retried_row (is_awaited s.link) o (at state.Connect s) (sessions.dialling (at state.Connect s).session) a b refl x refl (λ j. cc j) refl)
+      subst (λ (d : Draft). Row (at state.Connect s) NoMessage d a b) (sym (retry_is (is_joinable s.link) (fits (next_number s.link)) o s refl refl over))
+      (retried_row (is_joinable s.link) o (at state.Connect s) (sessions.dialling (at state.Connect s).session) a b refl x refl (λ j. cc j) refl)
   own_row event.ConnectRetryTimerExpires own state.Active o s a b x over =
-      subst (λ (d : Draft). Row (at state.Active s) NoMessage d a b) (sym (dial_again (is_awaited s.link) (fits (next_number s.link)) o s refl refl over))
-      (dialled_row (is_awaited s.link) o (at state.Active s) (sessions.dialling (at state.Active s).session) false a b refl x tt (λ j. cc j) refl)
+      subst (λ (d : Draft). Row (at state.Active s) NoMessage d a b) (sym (dial_again (is_joinable s.link) (fits (next_number s.link)) o s refl refl over))
+      (dialled_row (is_joinable s.link) o (at state.Active s) (sessions.dialling (at state.Active s).session) false a b refl x tt (λ j. cc j) refl)
   own_row event.ConnectRetryTimerExpires own state.OpenSent o s a b x over = told_row NoMessage (at state.OpenSent s) (sessions.closed (at state.OpenSent s).session) None FSM_ERROR a b x refl (λ i. cc i) refl
   own_row event.ConnectRetryTimerExpires own state.OpenConfirm o s a b x over = told_row NoMessage (at state.OpenConfirm s) (sessions.closed (at state.OpenConfirm s).session) None FSM_ERROR a b x refl (λ i. cc i) refl
   own_row event.ConnectRetryTimerExpires own state.Established o s a b x over = told_row NoMessage (at state.Established s) (sessions.closed (at state.Established s).session) (Some s.link.epoch) FSM_ERROR a b x refl (λ i. cc i) refl
@@ -304,7 +304,7 @@ module _ (laws : Laws) where
   pub at_own : (s : Side) (a b : End Message) → Stands s a b → at s.session.state s ≡ s
   at_own s a b x = ap (λ (p : Phase). record s { link = record s.link { phase = p } }) (sym (phase_fits s a b x))
 
-  pub own_event : (e : FsmEvent) → IsOwn e → (o : Open) (s : Side) (a b : End Message) → Stands s a b → (met (OpenMsg o) s e).overflows ≡ false → Row s NoMessage (met (OpenMsg o) s e) a b
+  pub own_event : (e : FsmEvent) → IsOwn e → (o : Open) (s : Side) (a b : End Message) → Stands s a b → (draft_event (OpenMsg o) s e).overflows ≡ false → Row s NoMessage (draft_event (OpenMsg o) s e) a b
   own_event e own o s a b x =
-      subst (λ (t : Side). Stands t a b → (met (OpenMsg o) t e).overflows ≡ false → Row t NoMessage (met (OpenMsg o) t e) a b) (at_own s a b x)
+      subst (λ (t : Side). Stands t a b → (draft_event (OpenMsg o) t e).overflows ≡ false → Row t NoMessage (draft_event (OpenMsg o) t e) a b) (at_own s a b x)
       (λ y over. own_row e own s.session.state o s a b y over) x

@@ -33,9 +33,9 @@ use Rattle.router_model.specs.declared.command.Command.{Command}
 use Rattle.router_model.specs.declared.command.Command.TheVariants as command
 use Rattle.outbox.specs.declared.item.What.TheVariants as item
 use Rattle.router_model.specs.Sides as sides
-use Rattle.router_model.specs.Sides.{Side, Draft, AtHand, NoMessage, HasFault, HasUpdate, at_hand, event_of, front, draft_of, notification, fits, does, does_all, obeys_all, joins, dials, shuts, met, reset, second, expires, signed, handled, is_connecting, is_up, comes, meets, obeys}
+use Rattle.router_model.specs.Sides.{Side, Draft, AtHand, NoMessage, HasFault, HasUpdate, at_hand, event_of, front, draft_of, notification, fits, apply_once, apply_all_once, apply_all, is_joined_by, dials, shuts, draft_event, draft_reset, draft_second, expires, draft_sign, draft_message, is_connecting, is_up, react, react_once, apply}
 use Rattle.router_model.specs.Settings.{peers, Setting, linked, prefixes, identifier}
-use Rattle.router_model.specs.State.{Router, rule_of, open_of, telling, route, undecided, untold, is_undecided, is_untold}
+use Rattle.router_model.specs.State.{Router, rule_of, open_of, telling, best_path, undecided, unadvertised, is_undecided, is_unadvertised}
 use Rattle.router_model.specs.Step.{RouterEvent, Obeys, Ticks, Handles, Decides, Advertises, after, says, says_where, says_by, says_update, says_markers, keeping, telling_to, telling_of, heeds, is_greater, records, meets_at, resets_at, second_at, signed_at, handled_at}
 use Rattle.snap_marker.specs.Recordings.{ends_channel}
 use Rattle.router_model.specs.Messages.{updates_in}
@@ -82,7 +82,7 @@ module _ (laws : Laws) where
     shuts_said a None s = s
     shuts_said a (Some n) s = good_append P a.says (Shut n ∷ []) s tt
 
-    does_said : (g : AtHand) → NoFault g → (a : Draft) → AllGood P a.says → (x : Action) → AllGood P (does own_open g a x).says
+    does_said : (g : AtHand) → NoFault g → (a : Draft) → AllGood P a.says → (x : Action) → AllGood P (apply_once own_open g a x).says
     does_said g n a s action.Dial = dials_said (fits (next_number a.link)) a refl s
     does_said g n a s action.SendOpen = tells_said a own_open s is_open
     does_said g n a s action.SendAlive = tells_said a AliveMsg s is_alive
@@ -95,44 +95,44 @@ module _ (laws : Laws) where
     does_said g n a s action.Up = s
     does_said g n a s action.Down = s
 
-    does_all_said : (xs : List Action) (g : AtHand) → NoFault g → (a : Draft) → AllGood P a.says → AllGood P (does_all own_open g a xs).says
+    does_all_said : (xs : List Action) (g : AtHand) → NoFault g → (a : Draft) → AllGood P a.says → AllGood P (apply_all_once own_open g a xs).says
     does_all_said [] g n a s = s
-    does_all_said (x ∷ xs) g n a s = does_all_said xs g n (does own_open g a x) (does_said g n a s x)
+    does_all_said (x ∷ xs) g n a s = does_all_said xs g n (apply_once own_open g a x) (does_said g n a s x)
 
-    obeys_said : (c : Bool) (x : Action) (g : AtHand) → NoFault g → (a : Draft) → joins a x ≡ c → AllGood P a.says → AllGood P (obeys own_open g a x).says
-    unfolding obeys meets
+    obeys_said : (c : Bool) (x : Action) (g : AtHand) → NoFault g → (a : Draft) → is_joined_by a x ≡ c → AllGood P a.says → AllGood P (apply own_open g a x).says
+    unfolding apply react_once
     obeys_said true x g n a is s =
-        rw is (does_all_said (on_event (does own_open g a x).session event.TcpCrAcked).actions g n
-        (record (does own_open g a x) { session = (on_event (does own_open g a x).session event.TcpCrAcked).session }) (does_said g n a s x))
+        rw is (does_all_said (on_event (apply_once own_open g a x).session event.TcpCrAcked).actions g n
+        (record (apply_once own_open g a x) { session = (on_event (apply_once own_open g a x).session event.TcpCrAcked).session }) (does_said g n a s x))
     obeys_said false x g n a is s = rw is (does_said g n a s x)
 
-    obeys_all_said : (xs : List Action) (g : AtHand) → NoFault g → (a : Draft) → AllGood P a.says → AllGood P (obeys_all own_open g a xs).says
+    obeys_all_said : (xs : List Action) (g : AtHand) → NoFault g → (a : Draft) → AllGood P a.says → AllGood P (apply_all own_open g a xs).says
     obeys_all_said [] g n a s = s
-    obeys_all_said (x ∷ xs) g n a s = obeys_all_said xs g n (obeys own_open g a x) (obeys_said (joins a x) x g n a refl s)
+    obeys_all_said (x ∷ xs) g n a s = obeys_all_said xs g n (apply own_open g a x) (obeys_said (is_joined_by a x) x g n a refl s)
 
-    pub comes_said : (g : AtHand) → NoFault g → (a : Draft) (e : FsmEvent) → AllGood P a.says → AllGood P (comes own_open g a e).says
-    unfolding comes
+    pub comes_said : (g : AtHand) → NoFault g → (a : Draft) (e : FsmEvent) → AllGood P a.says → AllGood P (react own_open g a e).says
+    unfolding react
     comes_said g n a e s = obeys_all_said (on_event a.session e).actions g n (record a { session = (on_event a.session e).session }) s
 
     pub expires_said : (a : Draft) (e : Option FsmEvent) → AllGood P a.says → AllGood P (expires own_open a e).says
     expires_said a None s = s
     expires_said a (Some e) s = comes_said NoMessage tt a e s
 
-    connecting_said : (c : Bool) (a : Draft) → AllGood P a.says → AllGood P (cond c (comes own_open NoMessage (dials a) event.TcpConnectionConfirmed) a).says
+    connecting_said : (c : Bool) (a : Draft) → AllGood P a.says → AllGood P (cond c (react own_open NoMessage (dials a) event.TcpConnectionConfirmed) a).says
     connecting_said true a s = comes_said NoMessage tt (dials a) event.TcpConnectionConfirmed (dials_said (fits (next_number a.link)) a refl s)
     connecting_said false a s = s
 
-    answers_said : (a : Draft) (h : Heard) → AllGood P a.says → AllGood P (sides.answers own_open a h).says
-    unfolding sides.answers
+    answers_said : (a : Draft) (h : Heard) → AllGood P a.says → AllGood P (sides.react_to_sign own_open a h).says
+    unfolding sides.react_to_sign
     answers_said a heard.Quiet s = s
     answers_said a heard.Joined s = comes_said NoMessage tt a event.TcpCrAcked s
     answers_said a (heard.Offered n) s = connecting_said (is_connecting a.session.state) a s
     answers_said a heard.Closed s = comes_said NoMessage tt a event.TcpConnectionFails s
 
-    pub signed_said : (s : Side) (x : Sign) → AllGood P (signed own_open s x).says
+    pub signed_said : (s : Side) (x : Sign) → AllGood P (draft_sign own_open s x).says
     signed_said s x = answers_said (draft_of s.session (heard_by s.link x)) (meaning_of s.link x) tt
 
-    pub handled_said : (s : Side) (m : Message) → AllGood P (handled own_open (Ok m) s).says
+    pub handled_said : (s : Side) (m : Message) → AllGood P (draft_message own_open (Ok m) s).says
     handled_said s m = comes_said (at_hand (Ok m)) (none m) (draft_of s.session s.link) (event_of (Ok m)) tt
       where
         none : (k : Message) → NoFault (at_hand (Ok k))
@@ -151,7 +151,7 @@ module _ (laws : Laws) where
   -- ---- steps
 
   module _ (g : Setting) (u : ℕ) (x : Router) where
-    comes_good : (a : Draft) (e : FsmEvent) → AllGood (IsSaid g u) a.says → AllGood (IsSaid g u) (comes (open_of g.net u) NoMessage a e).says
+    comes_good : (a : Draft) (e : FsmEvent) → AllGood (IsSaid g u) a.says → AllGood (IsSaid g u) (react (open_of g.net u) NoMessage a e).says
     comes_good a e s = comes_said (IsSaid g u) (open_of g.net u) refl tt (λ c. refl) NoMessage tt a e s
 
     signed_good : (w : ℕ) (i : Sign) → AllGood (IsSaid g u) (signed_at g u x w i).says
@@ -161,17 +161,17 @@ module _ (laws : Laws) where
     commanded (command.Start w) v = good_where (IsSaid g u) (v == w) (meets_at g u x w ManualStart).says (λ h. comes_good (draft_of (x.sides w).session (x.sides w).link) ManualStart tt)
     commanded (command.Stop w) v = good_where (IsSaid g u) (v == w) (meets_at g u x w ManualStop).says (λ h. comes_good (draft_of (x.sides w).session (x.sides w).link) ManualStop tt)
     commanded (command.Reset w) v =
-        good_where (IsSaid g u) (v == w) (resets_at g u x w).says (λ h. comes_good (met (open_of g.net u) (x.sides w) ManualStop) ManualStart (comes_good (draft_of (x.sides w).session (x.sides w).link) ManualStop tt))
+        good_where (IsSaid g u) (v == w) (resets_at g u x w).says (λ h. comes_good (draft_event (open_of g.net u) (x.sides w) ManualStop) ManualStart (comes_good (draft_of (x.sides w).session (x.sides w).link) ManualStop tt))
     commanded (command.Originate q) v = tt
     commanded (command.Withdraw q) v = tt
     commanded (command.Snapshot s) v = good_where (IsSaid g u) (linked g.net u v && is_up (x.sides v)) (Mark (x.sides v).link.epoch s ∷ []) (λ h. tt)
     commanded command.Restart v = good_where (IsSaid g u) (linked g.net u v) (meets_at g u x v ManualStop).says (λ h. comes_good (draft_of (x.sides v).session (x.sides v).link) ManualStop tt)
 
-    named_by : (w : ℕ) (c : Bool) (q : PrefixView) → cond c (find (is_untold g u x w) (prefixes g)) None ≡ Some q → IsNamed g.net.origins q
-    named_by w true q h = find_in (is_untold g u x w) g.net.origins q h
+    named_by : (w : ℕ) (c : Bool) (q : PrefixView) → cond c (find (is_unadvertised g u x w) (prefixes g)) None ≡ Some q → IsNamed g.net.origins q
+    named_by w true q h = find_in (is_unadvertised g u x w) g.net.origins q h
     named_by w false q h = absurd (cc h)
 
-    updated : (w v : ℕ) (q : Option PrefixView) → untold g u x w ≡ q → ((p : PrefixView) → MayKeep g u (x.kept p)) → AllGood (IsSaid g u) (says_update g u x v q)
+    updated : (w v : ℕ) (q : Option PrefixView) → unadvertised g u x w ≡ q → ((p : PrefixView) → MayKeep g u (x.kept p)) → AllGood (IsSaid g u) (says_update g u x v q)
     updated w v None is keeps = tt
     updated w v (Some q) is keeps = ((q, x.kept q, named_by w (linked g.net u w && is_up (x.sides w)) q is, keeps q, refl), tt)
 
@@ -184,9 +184,9 @@ module _ (laws : Laws) where
     step_said (alone (Handles w)) reads keeps v =
         good_where (IsSaid g u) (v == w) (handled_at g u x w).says
         (λ h. (let k = reads w refl in
-        subst (λ (r : Result Message Fault). AllGood (IsSaid g u) (handled (open_of g.net u) r (x.sides w)).says) (sym k.1) (handled_said (IsSaid g u) (open_of g.net u) refl tt (λ c. refl) (x.sides w) k.0)))
+        subst (λ (r : Result Message Fault). AllGood (IsSaid g u) (draft_message (open_of g.net u) r (x.sides w)).says) (sym k.1) (handled_said (IsSaid g u) (open_of g.net u) refl tt (λ c. refl) (x.sides w) k.0)))
     step_said (alone Decides) reads keeps v = tt
-    step_said (alone (Advertises w)) reads keeps v = good_where (IsSaid g u) (v == w) (says_update g u x v (untold g u x w)) (λ h. updated w v (untold g u x w) refl keeps)
+    step_said (alone (Advertises w)) reads keeps v = good_where (IsSaid g u) (v == w) (says_update g u x v (unadvertised g u x w)) (λ h. updated w v (unadvertised g u x w) refl keeps)
     step_said (puts w i) reads keeps v = tt
     step_said (takes w (item.Dial e)) reads keeps v = good_where (IsSaid g u) (v == w) (signed_at g u x w (sign.Dial e)).says (λ h. signed_good w (sign.Dial e))
     step_said (takes w (item.Piece e octets)) reads keeps v = tt
@@ -200,11 +200,11 @@ module _ (laws : Laws) where
     named_undecided : (q : PrefixView) → undecided g u x ≡ Some q → IsNamed g.net.origins q
     named_undecided q h = find_in (is_undecided g u x) g.net.origins q h
 
-    decided : (q : Option PrefixView) → ((p : PrefixView) → q ≡ Some p → MayKeep g u (route g u x p)) → ((p : PrefixView) → MayKeep g u (x.kept p)) → (p : PrefixView) → MayKeep g u ((keeping x q (route g u x)).kept p)
+    decided : (q : Option PrefixView) → ((p : PrefixView) → q ≡ Some p → MayKeep g u (best_path g u x p)) → ((p : PrefixView) → MayKeep g u (x.kept p)) → (p : PrefixView) → MayKeep g u ((keeping x q (best_path g u x)).kept p)
     decided None new keeps p = keeps p
     decided (Some q) new keeps p = by_test (is_prefix q p)
       where
-        by_test : (c : Bool) → MayKeep g u (cond c (route g u x q) (x.kept p))
+        by_test : (c : Bool) → MayKeep g u (cond c (best_path g u x q) (x.kept p))
         by_test true = new q refl
         by_test false = keeps p
 
@@ -217,7 +217,7 @@ module _ (laws : Laws) where
     marked_keeps true false w s y is = is
     marked_keeps false d w s y is = refl
 
-    pub step_keeps : (e : RouterEvent) → ((q : PrefixView) → IsNamed g.net.origins q → MayKeep g u (route g u x q)) → ((p : PrefixView) → MayKeep g u (x.kept p)) → (p : PrefixView) → MayKeep g u ((after g u x e).kept p)
+    pub step_keeps : (e : RouterEvent) → ((q : PrefixView) → IsNamed g.net.origins q → MayKeep g u (best_path g u x q)) → ((p : PrefixView) → MayKeep g u (x.kept p)) → (p : PrefixView) → MayKeep g u ((after g u x e).kept p)
     step_keeps (alone (Obeys (command.Start w))) new keeps p = keeps p
     step_keeps (alone (Obeys (command.Stop w))) new keeps p = keeps p
     step_keeps (alone (Obeys (command.Reset w))) new keeps p = keeps p
@@ -228,7 +228,7 @@ module _ (laws : Laws) where
     step_keeps (alone Ticks) new keeps p = keeps p
     step_keeps (alone (Handles w)) new keeps p = keeps p
     step_keeps (alone Decides) new keeps p = decided (undecided g u x) (λ q h. new q (named_undecided q h)) keeps p
-    step_keeps (alone (Advertises w)) new keeps p = subst (MayKeep g u) (sym (told_keeps w (untold g u x w) p)) (keeps p)
+    step_keeps (alone (Advertises w)) new keeps p = subst (MayKeep g u) (sym (told_keeps w (unadvertised g u x w) p)) (keeps p)
     step_keeps (puts w i) new keeps p = keeps p
     step_keeps (takes w (item.Dial e)) new keeps p = keeps p
     step_keeps (takes w (item.Piece e octets)) new keeps p = keeps p
@@ -252,9 +252,9 @@ module _ (laws : Laws) where
         | inr other ↦ elim other.1 [
           | inl first ↦ elim first.choice.permitted [
             | inl origin ↦ absurd (other.0 origin.0)
-            | inr route ↦ inr (record {
+            | inr best_path ↦ inr (record {
               begins = (words first.choice.peer, first.choice.goes_on ∙ ap (λ i. i ∷ words first.choice.peer) number);
-              short = route.1.short;
+              short = best_path.1.short;
               small = subst (NumbersFit g) (sym (first.choice.goes_on ∙ ap (λ i. i ∷ words first.choice.peer) number)) (small, all first.choice.peer);
             })
           ]

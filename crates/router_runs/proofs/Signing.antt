@@ -21,7 +21,7 @@ use Rattle.run_model.specs.Sessions as model
 use Rattle.run_model.specs.Sessions.{Confirms, Yields, Passes, Fails, Speaks, SendsMarker, IsPassed}
 use Rattle.run_model.specs.Octets.{OnlyMessages}
 use Rattle.router_model.specs.Sides as sides
-use Rattle.router_model.specs.Sides.{Side, Draft, NoMessage, carried, draft_of, signed, is_established, is_up, told, marked, fits, comes, meets, obeys}
+use Rattle.router_model.specs.Sides.{Side, Draft, NoMessage, carried, draft_of, draft_sign, is_established, is_up, told, marked, fits, react, react_once, apply}
 use Rattle.router_runs.specs.Reading.{state_of, phase_of, phase_in}
 use Rattle.router_runs.specs.Moving.{with_used}
 use Rattle.router_runs.specs.Doing.{Stands, Does}
@@ -88,15 +88,15 @@ module _ (laws : Laws) where
 
   -- the draft, computed by the tests
   idle_dial : (h n : Bool) (o : Open) (s : Side) (e : ℕ) → nat_lt s.link.heard e ≡ h → nat_lt s.link.epoch e ≡ n
-      → signed (OpenMsg o) (at state.Idle s) (sign.Dial e) ≡ quiet_draft (at state.Idle s) (sign.Dial e)
-  unfolding sides.answers comes meets obeys
+      → draft_sign (OpenMsg o) (at state.Idle s) (sign.Dial e) ≡ quiet_draft (at state.Idle s) (sign.Dial e)
+  unfolding sides.react_to_sign react react_once apply
   idle_dial true true o s e hh hn = rw (hh, hn) refl
   idle_dial true false o s e hh hn = rw (hh, hn) refl
   idle_dial false n o s e hh hn = rw hh refl
 
   joined_dial : (h : Bool) (st : State) (o : Open) (s : Side) (e : ℕ) → nat_lt s.link.heard e ≡ h → phase_in st ≡ phase.Joined
-      → signed (OpenMsg o) (at st s) (sign.Dial e) ≡ quiet_draft (at st s) (sign.Dial e)
-  unfolding sides.answers comes meets obeys
+      → draft_sign (OpenMsg o) (at st s) (sign.Dial e) ≡ quiet_draft (at st s) (sign.Dial e)
+  unfolding sides.react_to_sign react react_once apply
   joined_dial h state.Idle o s e hh j = absurd (cc j)
   joined_dial h state.Connect o s e hh j = absurd (cc j)
   joined_dial h state.Active o s e hh j = absurd (cc j)
@@ -109,33 +109,33 @@ module _ (laws : Laws) where
 
   -- by the tests: above what was heard, the own number, above the own number, and whether it fits
   active_dial : (h n f : Bool) (o : Open) (s : Side) (e : ℕ) (a b : End Message) → nat_lt s.link.heard e ≡ h → nat_lt s.link.epoch e ≡ n → fits e ≡ f → Stands (at state.Active s) a b → IsNext a b (Dial e)
-      → (signed (OpenMsg o) (at state.Active s) (sign.Dial e)).overflows ≡ false
-      → Does (at state.Active s) (carried NoMessage (at state.Active s) (signed (OpenMsg o) (at state.Active s) (sign.Dial e))) (signed (OpenMsg o) (at state.Active s) (sign.Dial e)).says (Dial e ∷ []) a b
-  unfolding sides.answers comes meets obeys
+      → (draft_sign (OpenMsg o) (at state.Active s) (sign.Dial e)).overflows ≡ false
+      → Does (at state.Active s) (carried NoMessage (at state.Active s) (draft_sign (OpenMsg o) (at state.Active s) (sign.Dial e))) (draft_sign (OpenMsg o) (at state.Active s) (sign.Dial e)).says (Dial e ∷ []) a b
+  unfolding sides.react_to_sign react react_once apply
   active_dial true true true o s e a b hh hn hf x next over =
-      let is : signed (OpenMsg o) (at state.Active s) (sign.Dial e) ≡ yielded o (at state.Active s) e = rw (hh, hn, hn, hf) refl in
+      let is : draft_sign (OpenMsg o) (at state.Active s) (sign.Dial e) ≡ yielded o (at state.Active s) e = rw (hh, hn, hn, hf) refl in
       subst (λ (d : Draft). Does (at state.Active s) (carried NoMessage (at state.Active s) d) d.says (Dial e ∷ []) a b) (sym is) (yields o (at state.Active s) e a b x next tt hh hn)
   active_dial true true false o s e a b hh hn hf x next over = absurd (let k = rw (hh, hn, hn, hf) at over in cc k)
   active_dial true false f o s e a b hh hn hf x next over =
-      let is : signed (OpenMsg o) (at state.Active s) (sign.Dial e) ≡ quiet_draft (at state.Active s) (sign.Dial e) = rw (hh, hn) refl in
+      let is : draft_sign (OpenMsg o) (at state.Active s) (sign.Dial e) ≡ quiet_draft (at state.Active s) (sign.Dial e) = rw (hh, hn) refl in
       subst (λ (d : Draft). Does (at state.Active s) (carried NoMessage (at state.Active s) d) d.says (Dial e ∷ []) a b) (sym is) (dial_quiet (at state.Active s) e a b x next (apart_passed (at state.Active s) links.Closed e a b x refl refl))
   active_dial false n f o s e a b hh hn hf x next over =
-      let is : signed (OpenMsg o) (at state.Active s) (sign.Dial e) ≡ quiet_draft (at state.Active s) (sign.Dial e) = rw hh refl in
+      let is : draft_sign (OpenMsg o) (at state.Active s) (sign.Dial e) ≡ quiet_draft (at state.Active s) (sign.Dial e) = rw hh refl in
       subst (λ (d : Draft). Does (at state.Active s) (carried NoMessage (at state.Active s) d) d.says (Dial e ∷ []) a b) (sym is) (dial_quiet (at state.Active s) e a b x next (apart_passed (at state.Active s) links.Closed e a b x refl refl))
 
   connect_dial : (h c n f : Bool) (o : Open) (s : Side) (e : ℕ) (a b : End Message) → nat_lt s.link.heard e ≡ h → (e == s.link.epoch) ≡ c → nat_lt s.link.epoch e ≡ n → fits e ≡ f → Stands (at state.Connect s) a b → IsNext a b (Dial e)
-      → (signed (OpenMsg o) (at state.Connect s) (sign.Dial e)).overflows ≡ false
-      → Does (at state.Connect s) (carried NoMessage (at state.Connect s) (signed (OpenMsg o) (at state.Connect s) (sign.Dial e))) (signed (OpenMsg o) (at state.Connect s) (sign.Dial e)).says (Dial e ∷ []) a b
-  unfolding sides.answers comes meets obeys
+      → (draft_sign (OpenMsg o) (at state.Connect s) (sign.Dial e)).overflows ≡ false
+      → Does (at state.Connect s) (carried NoMessage (at state.Connect s) (draft_sign (OpenMsg o) (at state.Connect s) (sign.Dial e))) (draft_sign (OpenMsg o) (at state.Connect s) (sign.Dial e)).says (Dial e ∷ []) a b
+  unfolding sides.react_to_sign react react_once apply
   connect_dial true true n f o s e a b hh hc hn hf x next over =
-      let is : signed (OpenMsg o) (at state.Connect s) (sign.Dial e) ≡ confirmed o (at state.Connect s) e = rw (hh, hc) refl in
+      let is : draft_sign (OpenMsg o) (at state.Connect s) (sign.Dial e) ≡ confirmed o (at state.Connect s) e = rw (hh, hc) refl in
       subst (λ (d : Draft). Does (at state.Connect s) (carried NoMessage (at state.Connect s) d) d.says (Dial e ∷ []) a b) (sym is) (confirms o (at state.Connect s) e a b x next refl hh hc)
   connect_dial true false true true o s e a b hh hc hn hf x next over =
-      let is : signed (OpenMsg o) (at state.Connect s) (sign.Dial e) ≡ yielded o (at state.Connect s) e = rw (hh, hc, hn, hn, hf) refl in
+      let is : draft_sign (OpenMsg o) (at state.Connect s) (sign.Dial e) ≡ yielded o (at state.Connect s) e = rw (hh, hc, hn, hn, hf) refl in
       subst (λ (d : Draft). Does (at state.Connect s) (carried NoMessage (at state.Connect s) d) d.says (Dial e ∷ []) a b) (sym is) (yields o (at state.Connect s) e a b x next tt hh hn)
   connect_dial true false true false o s e a b hh hc hn hf x next over = absurd (let k = rw (hh, hc, hn, hn, hf) at over in cc k)
   connect_dial true false false f o s e a b hh hc hn hf x next over =
-      let is : signed (OpenMsg o) (at state.Connect s) (sign.Dial e) ≡ quiet_draft (at state.Connect s) (sign.Dial e) = rw (hh, hc, hn) refl in
+      let is : draft_sign (OpenMsg o) (at state.Connect s) (sign.Dial e) ≡ quiet_draft (at state.Connect s) (sign.Dial e) = rw (hh, hc, hn) refl in
       let re = x.reads.epoch in
       let other : (e == incarnation a) ≡ false = ap (λ i. e == i) (sym re) ∙ hc in
       let rh = x.reads.heard in
@@ -143,20 +143,20 @@ module _ (laws : Laws) where
       subst (λ (d : Draft). Does (at state.Connect s) (carried NoMessage (at state.Connect s) d) d.says (Dial e ∷ []) a b) (sym is)
       (dial_quiet (at state.Connect s) e a b x next (test_passed (nat_lt (heard_number a) e && (e == incarnation a)) a.phase (rw (above, other) refl)))
   connect_dial false c n f o s e a b hh hc hn hf x next over =
-      let is : signed (OpenMsg o) (at state.Connect s) (sign.Dial e) ≡ quiet_draft (at state.Connect s) (sign.Dial e) = rw hh refl in
+      let is : draft_sign (OpenMsg o) (at state.Connect s) (sign.Dial e) ≡ quiet_draft (at state.Connect s) (sign.Dial e) = rw hh refl in
       let rh = x.reads.heard in
       let below : nat_lt (heard_number a) e ≡ false = ap (λ i. nat_lt i e) (sym rh) ∙ hh in
       subst (λ (d : Draft). Does (at state.Connect s) (carried NoMessage (at state.Connect s) d) d.says (Dial e ∷ []) a b) (sym is)
       (dial_quiet (at state.Connect s) e a b x next (test_passed (nat_lt (heard_number a) e && (e == incarnation a)) a.phase (rw below refl)))
 
-  quiet_dial : (st : State) (q : links.Phase) (o : Open) (s : Side) (e : ℕ) (a b : End Message) → signed (OpenMsg o) (at st s) (sign.Dial e) ≡ quiet_draft (at st s) (sign.Dial e) → phase_of (phase_in st) ≡ q → phase_joining q ≡ q
+  quiet_dial : (st : State) (q : links.Phase) (o : Open) (s : Side) (e : ℕ) (a b : End Message) → draft_sign (OpenMsg o) (at st s) (sign.Dial e) ≡ quiet_draft (at st s) (sign.Dial e) → phase_of (phase_in st) ≡ q → phase_joining q ≡ q
       → Stands (at st s) a b → IsNext a b (Dial e)
-      → Does (at st s) (carried NoMessage (at st s) (signed (OpenMsg o) (at st s) (sign.Dial e))) (signed (OpenMsg o) (at st s) (sign.Dial e)).says (Dial e ∷ []) a b
+      → Does (at st s) (carried NoMessage (at st s) (draft_sign (OpenMsg o) (at st s) (sign.Dial e))) (draft_sign (OpenMsg o) (at st s) (sign.Dial e)).says (Dial e ∷ []) a b
   quiet_dial st q o s e a b is p same x next =
       subst (λ (d : Draft). Does (at st s) (carried NoMessage (at st s) d) d.says (Dial e ∷ []) a b) (sym is) (dial_quiet (at st s) e a b x next (apart_passed (at st s) q e a b x p same))
 
-  dial_row : (st : State) (o : Open) (s : Side) (e : ℕ) (a b : End Message) → Stands (at st s) a b → IsNext a b (Dial e) → (signed (OpenMsg o) (at st s) (sign.Dial e)).overflows ≡ false
-      → Does (at st s) (carried NoMessage (at st s) (signed (OpenMsg o) (at st s) (sign.Dial e))) (signed (OpenMsg o) (at st s) (sign.Dial e)).says (Dial e ∷ []) a b
+  dial_row : (st : State) (o : Open) (s : Side) (e : ℕ) (a b : End Message) → Stands (at st s) a b → IsNext a b (Dial e) → (draft_sign (OpenMsg o) (at st s) (sign.Dial e)).overflows ≡ false
+      → Does (at st s) (carried NoMessage (at st s) (draft_sign (OpenMsg o) (at st s) (sign.Dial e))) (draft_sign (OpenMsg o) (at st s) (sign.Dial e)).says (Dial e ∷ []) a b
   dial_row state.Idle o s e a b x next over = quiet_dial state.Idle links.Closed o s e a b (idle_dial (nat_lt s.link.heard e) (nat_lt s.link.epoch e) o s e refl refl) refl refl x next
   dial_row state.Connect o s e a b x next over = connect_dial (nat_lt s.link.heard e) (e == s.link.epoch) (nat_lt s.link.epoch e) (fits e) o s e a b refl refl refl refl x next over
   dial_row state.Active o s e a b x next over = active_dial (nat_lt s.link.heard e) (nat_lt s.link.epoch e) (fits e) o s e a b refl refl refl x next over
@@ -164,10 +164,10 @@ module _ (laws : Laws) where
   dial_row state.OpenConfirm o s e a b x next over = quiet_dial state.OpenConfirm links.Joined o s e a b (joined_dial (nat_lt s.link.heard e) state.OpenConfirm o s e refl refl) refl refl x next
   dial_row state.Established o s e a b x next over = quiet_dial state.Established links.Joined o s e a b (joined_dial (nat_lt s.link.heard e) state.Established o s e refl refl) refl refl x next
 
-  pub dial_event : (o : Open) (s : Side) (e : ℕ) (a b : End Message) → Stands s a b → IsNext a b (Dial e) → (signed (OpenMsg o) s (sign.Dial e)).overflows ≡ false
-      → Does s (carried NoMessage s (signed (OpenMsg o) s (sign.Dial e))) (signed (OpenMsg o) s (sign.Dial e)).says (Dial e ∷ []) a b
+  pub dial_event : (o : Open) (s : Side) (e : ℕ) (a b : End Message) → Stands s a b → IsNext a b (Dial e) → (draft_sign (OpenMsg o) s (sign.Dial e)).overflows ≡ false
+      → Does s (carried NoMessage s (draft_sign (OpenMsg o) s (sign.Dial e))) (draft_sign (OpenMsg o) s (sign.Dial e)).says (Dial e ∷ []) a b
   dial_event o s e a b x next over =
-      (subst (λ (t : Side). Stands t a b → (signed (OpenMsg o) t (sign.Dial e)).overflows ≡ false → Does t (carried NoMessage t (signed (OpenMsg o) t (sign.Dial e))) (signed (OpenMsg o) t (sign.Dial e)).says (Dial e ∷ []) a b) (at_own laws s a b x)
+      (subst (λ (t : Side). Stands t a b → (draft_sign (OpenMsg o) t (sign.Dial e)).overflows ≡ false → Does t (carried NoMessage t (draft_sign (OpenMsg o) t (sign.Dial e))) (draft_sign (OpenMsg o) t (sign.Dial e)).says (Dial e ∷ []) a b) (at_own laws s a b x)
       (λ y over'. dial_row s.session.state o s e a b y next over')) x over
 
   -- ---- the end of an incarnation
@@ -211,23 +211,23 @@ module _ (laws : Laws) where
   -- in the joined phase, whether both numbers are the one that is shut
   joined_shut : (p q : Bool) (st : State) (o : Open) (s : Side) (e : ℕ) (a b : End Message) → (e == s.link.heard) ≡ p → (e == s.link.epoch) ≡ q → phase_in st ≡ phase.Joined → heard_number a ≡ incarnation a
       → Stands (at st s) a b → IsNext a b (Shut e)
-      → Does (at st s) (carried NoMessage (at st s) (signed (OpenMsg o) (at st s) (sign.Shut e))) (signed (OpenMsg o) (at st s) (sign.Shut e)).says (Shut e ∷ []) a b
-  unfolding sides.answers comes meets obeys
+      → Does (at st s) (carried NoMessage (at st s) (draft_sign (OpenMsg o) (at st s) (sign.Shut e))) (draft_sign (OpenMsg o) (at st s) (sign.Shut e)).says (Shut e ∷ []) a b
+  unfolding sides.react_to_sign react react_once apply
   joined_shut p q state.Idle o s e a b hp hq j own x next = absurd (cc j)
   joined_shut p q state.Connect o s e a b hp hq j own x next = absurd (cc j)
   joined_shut p q state.Active o s e a b hp hq j own x next = absurd (cc j)
   joined_shut true true state.OpenSent o s e a b hp hq j own x next =
-      let is : signed (OpenMsg o) (at state.OpenSent s) (sign.Shut e) ≡ ended (at state.OpenSent s) (sessions.retrying (at state.OpenSent s).session) None = rw (hp, hq) refl in
+      let is : draft_sign (OpenMsg o) (at state.OpenSent s) (sign.Shut e) ≡ ended (at state.OpenSent s) (sessions.retrying (at state.OpenSent s).session) None = rw (hp, hq) refl in
       subst (λ (d : Draft). Does (at state.OpenSent s) (carried NoMessage (at state.OpenSent s) d) d.says (Shut e ∷ []) a b) (sym is)
       (then_shut (at state.OpenSent s) (sessions.retrying (at state.OpenSent s).session) None e a b next hp
       (by_event laws (at state.OpenSent s) (hung_side (at state.OpenSent s) (sessions.retrying (at state.OpenSent s).session)) a b Fails (HangsUp ∷ []) x refl refl refl refl refl refl))
   joined_shut true true state.OpenConfirm o s e a b hp hq j own x next =
-      let is : signed (OpenMsg o) (at state.OpenConfirm s) (sign.Shut e) ≡ ended (at state.OpenConfirm s) (sessions.closed (at state.OpenConfirm s).session) None = rw (hp, hq) refl in
+      let is : draft_sign (OpenMsg o) (at state.OpenConfirm s) (sign.Shut e) ≡ ended (at state.OpenConfirm s) (sessions.closed (at state.OpenConfirm s).session) None = rw (hp, hq) refl in
       subst (λ (d : Draft). Does (at state.OpenConfirm s) (carried NoMessage (at state.OpenConfirm s) d) d.says (Shut e ∷ []) a b) (sym is)
       (then_shut (at state.OpenConfirm s) (sessions.closed (at state.OpenConfirm s).session) None e a b next hp
       (hung_does laws (at state.OpenConfirm s) (hung_side (at state.OpenConfirm s) (sessions.closed (at state.OpenConfirm s).session)) a b x (λ i. cc i) (λ i. cc i) refl refl refl refl))
   joined_shut true true state.Established o s e a b hp hq j own x next =
-      let is : signed (OpenMsg o) (at state.Established s) (sign.Shut e) ≡ ended (at state.Established s) (sessions.closed (at state.Established s).session) (Some s.link.epoch) = rw (hp, hq) refl in
+      let is : draft_sign (OpenMsg o) (at state.Established s) (sign.Shut e) ≡ ended (at state.Established s) (sessions.closed (at state.Established s).session) (Some s.link.epoch) = rw (hp, hq) refl in
       subst (λ (d : Draft). Does (at state.Established s) (carried NoMessage (at state.Established s) d) d.says (Shut e ∷ []) a b) (sym is)
       (then_shut (at state.Established s) (sessions.closed (at state.Established s).session) (Some s.link.epoch) e a b next hp
       (hung_does laws (at state.Established s) (hung_side (at state.Established s) (sessions.closed (at state.Established s).session)) a b x (λ i. cc i) (λ i. cc i) refl refl refl refl))
@@ -235,18 +235,18 @@ module _ (laws : Laws) where
   joined_shut true false state.OpenConfirm o s e a b hp hq j own x next = absurd (differ s e a b hp hq own x.reads.epoch x.reads.heard)
   joined_shut true false state.Established o s e a b hp hq j own x next = absurd (differ s e a b hp hq own x.reads.epoch x.reads.heard)
   joined_shut false q state.OpenSent o s e a b hp hq j own x next =
-      let is : signed (OpenMsg o) (at state.OpenSent s) (sign.Shut e) ≡ quiet_draft (at state.OpenSent s) (sign.Shut e) = rw hp refl in
+      let is : draft_sign (OpenMsg o) (at state.OpenSent s) (sign.Shut e) ≡ quiet_draft (at state.OpenSent s) (sign.Shut e) = rw hp refl in
       subst (λ (d : Draft). Does (at state.OpenSent s) (carried NoMessage (at state.OpenSent s) d) d.says (Shut e ∷ []) a b) (sym is) (shut_quiet (at state.OpenSent s) e a b x next (λ k. other s e a hp own x.reads.heard))
   joined_shut false q state.OpenConfirm o s e a b hp hq j own x next =
-      let is : signed (OpenMsg o) (at state.OpenConfirm s) (sign.Shut e) ≡ quiet_draft (at state.OpenConfirm s) (sign.Shut e) = rw hp refl in
+      let is : draft_sign (OpenMsg o) (at state.OpenConfirm s) (sign.Shut e) ≡ quiet_draft (at state.OpenConfirm s) (sign.Shut e) = rw hp refl in
       subst (λ (d : Draft). Does (at state.OpenConfirm s) (carried NoMessage (at state.OpenConfirm s) d) d.says (Shut e ∷ []) a b) (sym is) (shut_quiet (at state.OpenConfirm s) e a b x next (λ k. other s e a hp own x.reads.heard))
   joined_shut false q state.Established o s e a b hp hq j own x next =
-      let is : signed (OpenMsg o) (at state.Established s) (sign.Shut e) ≡ quiet_draft (at state.Established s) (sign.Shut e) = rw hp refl in
+      let is : draft_sign (OpenMsg o) (at state.Established s) (sign.Shut e) ≡ quiet_draft (at state.Established s) (sign.Shut e) = rw hp refl in
       subst (λ (d : Draft). Does (at state.Established s) (carried NoMessage (at state.Established s) d) d.says (Shut e ∷ []) a b) (sym is) (shut_quiet (at state.Established s) e a b x next (λ k. other s e a hp own x.reads.heard))
 
   apart_shut : (st : State) (o : Open) (s : Side) (e : ℕ) (a b : End Message) → phase_in st ≢ phase.Joined → Stands (at st s) a b → IsNext a b (Shut e)
-      → Does (at st s) (carried NoMessage (at st s) (signed (OpenMsg o) (at st s) (sign.Shut e))) (signed (OpenMsg o) (at st s) (sign.Shut e)).says (Shut e ∷ []) a b
-  unfolding sides.answers comes meets obeys
+      → Does (at st s) (carried NoMessage (at st s) (draft_sign (OpenMsg o) (at st s) (sign.Shut e))) (draft_sign (OpenMsg o) (at st s) (sign.Shut e)).says (Shut e ∷ []) a b
+  unfolding sides.react_to_sign react react_once apply
   apart_shut state.Idle o s e a b n x next = shut_quiet (at state.Idle s) e a b x next (λ k. absurd (let p = x.reads.phase in cc (p, k)))
   apart_shut state.Connect o s e a b n x next = shut_quiet (at state.Connect s) e a b x next (λ k. absurd (let p = x.reads.phase in cc (p, k)))
   apart_shut state.Active o s e a b n x next = shut_quiet (at state.Active s) e a b x next (λ k. absurd (let p = x.reads.phase in cc (p, k)))
@@ -255,7 +255,7 @@ module _ (laws : Laws) where
   apart_shut state.Established o s e a b n x next = absurd (n refl)
 
   shut_row : (st : State) (o : Open) (s : Side) (e : ℕ) (a b : End Message) → (phase_in st ≡ phase.Joined → heard_number a ≡ incarnation a) → Stands (at st s) a b → IsNext a b (Shut e)
-      → Does (at st s) (carried NoMessage (at st s) (signed (OpenMsg o) (at st s) (sign.Shut e))) (signed (OpenMsg o) (at st s) (sign.Shut e)).says (Shut e ∷ []) a b
+      → Does (at st s) (carried NoMessage (at st s) (draft_sign (OpenMsg o) (at st s) (sign.Shut e))) (draft_sign (OpenMsg o) (at st s) (sign.Shut e)).says (Shut e ∷ []) a b
   shut_row state.Idle o s e a b own x next = apart_shut state.Idle o s e a b (λ j. cc j) x next
   shut_row state.Connect o s e a b own x next = apart_shut state.Connect o s e a b (λ j. cc j) x next
   shut_row state.Active o s e a b own x next = apart_shut state.Active o s e a b (λ j. cc j) x next
@@ -264,9 +264,9 @@ module _ (laws : Laws) where
   shut_row state.Established o s e a b own x next = joined_shut (e == s.link.heard) (e == s.link.epoch) state.Established o s e a b refl refl refl (own refl) x next
 
   pub shut_event : (o : Open) (s : Side) (e : ℕ) (a b : End Message) → (a.phase ≡ links.Joined → heard_number a ≡ incarnation a) → Stands s a b → IsNext a b (Shut e)
-      → Does s (carried NoMessage s (signed (OpenMsg o) s (sign.Shut e))) (signed (OpenMsg o) s (sign.Shut e)).says (Shut e ∷ []) a b
+      → Does s (carried NoMessage s (draft_sign (OpenMsg o) s (sign.Shut e))) (draft_sign (OpenMsg o) s (sign.Shut e)).says (Shut e ∷ []) a b
   shut_event o s e a b own x next =
-      (subst (λ (t : Side). Stands t a b → Does t (carried NoMessage t (signed (OpenMsg o) t (sign.Shut e))) (signed (OpenMsg o) t (sign.Shut e)).says (Shut e ∷ []) a b) (at_own laws s a b x)
+      (subst (λ (t : Side). Stands t a b → Does t (carried NoMessage t (draft_sign (OpenMsg o) t (sign.Shut e))) (draft_sign (OpenMsg o) t (sign.Shut e)).says (Shut e ∷ []) a b) (at_own laws s a b x)
       (λ y. shut_row s.session.state o s e a b (λ j. own (y.reads.phase ∙ ap phase_of j)) y next)) x
 
   -- ---- a marker, an UPDATE told, messages that are dropped

@@ -22,7 +22,7 @@ use Rattle.run_model.specs.Links.{Entry, Dial, Says, Mark, Shut, End, incarnatio
 use Rattle.run_model.specs.Octets.{Passing, Control, octets_of, passing, AllGood}
 use Rattle.outbox.specs.declared.item.What.{What}
 use Rattle.router_model.specs.Settings.{Setting}
-use Rattle.router_model.specs.Sides.{Side, Draft, AtHand, NoMessage, carried, draft_of, met, second, expires, comes, meets, obeys}
+use Rattle.router_model.specs.Sides.{Side, Draft, AtHand, NoMessage, carried, draft_of, draft_event, draft_second, expires, react, react_once, apply}
 use Rattle.outbox.specs.Items.{passes}
 use Rattle.router_model.specs.Step.{says_where}
 use Rattle.router_model.specs.Laws.{all_passes}
@@ -92,8 +92,8 @@ module _ (laws : Laws) where
 
   -- ---- a stop never dials; a reset is a stop and a start; a second is a timer
 
-  stop_fits : (st : State) (o : Open) (s : Side) → (met (OpenMsg o) (at st s) ManualStop).overflows ≡ false
-  unfolding comes meets obeys
+  stop_fits : (st : State) (o : Open) (s : Side) → (draft_event (OpenMsg o) (at st s) ManualStop).overflows ≡ false
+  unfolding react react_once apply
   stop_fits state.Idle o s = refl
   stop_fits state.Connect o s = refl
   stop_fits state.Active o s = refl
@@ -101,8 +101,8 @@ module _ (laws : Laws) where
   stop_fits state.OpenConfirm o s = refl
   stop_fits state.Established o s = refl
 
-  pub stop_event : (o : Open) (s : Side) (a b : End Message) → Stands s a b → Row s NoMessage (met (OpenMsg o) s ManualStop) a b
-  stop_event o s a b x = own_event laws ManualStop tt o s a b x (subst (λ (t : Side). (met (OpenMsg o) t ManualStop).overflows ≡ false) (at_own laws s a b x) (stop_fits s.session.state o s))
+  pub stop_event : (o : Open) (s : Side) (a b : End Message) → Stands s a b → Row s NoMessage (draft_event (OpenMsg o) s ManualStop) a b
+  stop_event o s a b x = own_event laws ManualStop tt o s a b x (subst (λ (t : Side). (draft_event (OpenMsg o) t ManualStop).overflows ≡ false) (at_own laws s a b x) (stop_fits s.session.state o s))
 
   -- the same from a side that differs in its timers
   timer_row : (s : Side) (d : Draft) (a b : End Message) → Row (record s { session = ticked s.session }) NoMessage d a b → Row s NoMessage d a b
@@ -128,7 +128,7 @@ module _ (laws : Laws) where
   timer_own false false false true k h = (let is : event.AutomaticStart ≡ k = cc h in subst (IsOwn laws) is tt)
   timer_own false false false false k h = absurd (cc h)
 
-  pub second_event : (o : Open) (s : Side) (a b : End Message) → Stands s a b → (second (OpenMsg o) s).overflows ≡ false → Row s NoMessage (second (OpenMsg o) s) a b
+  pub second_event : (o : Open) (s : Side) (a b : End Message) → Stands s a b → (draft_second (OpenMsg o) s).overflows ≡ false → Row s NoMessage (draft_second (OpenMsg o) s) a b
   second_event o s a b x over =
       second_row (runs_out s.session) o s a b x
       (λ k h. timer_own (s.session.hold_timer == 1) (s.session.keepalive_timer == 1) (s.session.connect_retry_timer == 1) (s.session.restart_timer == 1) k h) over

@@ -21,7 +21,7 @@ use Rattle.router_model.specs.declared.command.Command.TheVariants as command
 use Rattle.router_model.specs.Messages.{is_update}
 use Rattle.router_model.specs.Settings.{Setting, linked, names, prefixes, identifier}
 use Rattle.router_model.specs.Sides.{Side, told, is_up}
-use Rattle.router_model.specs.State.{Router, same_path, route, undecided, untold, is_undecided, is_untold, last_told, telling}
+use Rattle.router_model.specs.State.{Router, same_path, best_path, undecided, unadvertised, is_undecided, is_unadvertised, last_told, telling}
 use Rattle.router_model.specs.Step as steps
 use Rattle.router_model.specs.Step.{RouterEvent, Obeys, Decides, Advertises, May, says, originating, keeping, telling_to, telling_of}
 use Rattle.router_runs.specs.Model.{network_of}
@@ -118,18 +118,18 @@ module _ (laws : Laws) (g : Setting) (net : IsNetwork g.net) (u : ℕ) (far : �
 
   -- ---- deciding
 
-  route_is : (q : PrefixView) → routes.route (network_of g) u n.recorder.ends q (n.originated q) ≡ route g u x q
+  route_is : (q : PrefixView) → routes.route (network_of g) u n.recorder.ends q (n.originated q) ≡ best_path g u x q
   route_is q = ap (λ (o : PrefixView → Bool). routes.route (network_of g) u n.recorder.ends q (o q)) reads.originated ∙ routes_alike g u x n.recorder.ends alike q
 
-  decides_at : (o : Option PrefixView) → undecided g u x ≡ o → is_some o ≡ true → StepTo (keeping x o (route g u x)) (λ v. [])
+  decides_at : (o : Option PrefixView) → undecided g u x ≡ o → is_some o ≡ true → StepTo (keeping x o (best_path g u x)) (λ v. [])
   decides_at None e h = absurd (cc h)
   decides_at (Some q) e h =
       let event : ModelEvent = Decide q in
       let named = found_named (is_undecided g u x) g.net.origins q e in
       let other = found (is_undecided g u x) (prefixes g) q e in
-      tables_step (keeping x (Some q) (route g u x)) event refl refl refl refl refl
-      (ap (λ r. λ p. cond (is_prefix q p) r (n.kept p)) (route_is q) ∙ ap (λ k. λ p. cond (is_prefix q p) (route g u x q) (k p)) reads.kept) reads.originated
-      (one_goes g u far Still n event [] (named, λ same. differs (x.kept q) (route g u x q) other (sym (ap (λ k. k q) reads.kept) ∙ (same ∙ route_is q))) refl (λ s c still is. tt))
+      tables_step (keeping x (Some q) (best_path g u x)) event refl refl refl refl refl
+      (ap (λ r. λ p. cond (is_prefix q p) r (n.kept p)) (route_is q) ∙ ap (λ k. λ p. cond (is_prefix q p) (best_path g u x q) (k p)) reads.kept) reads.originated
+      (one_goes g u far Still n event [] (named, λ same. differs (x.kept q) (best_path g u x q) other (sym (ap (λ k. k q) reads.kept) ∙ (same ∙ route_is q))) refl (λ s c still is. tt))
 
   pub decide_step : May g u x (alone Decides) → StepTo (steps.after g u x (alone Decides)) (says g u x (alone Decides))
   decide_step may = decides_at (undecided g u x) refl may
@@ -192,17 +192,17 @@ module _ (laws : Laws) (g : Setting) (net : IsNetwork g.net) (u : ℕ) (far : �
   mentions_path [] q = refl
   mentions_path (v ∷ path) q = refl
 
-  advertises_at : (w : ℕ) (o : Option PrefixView) → untold g u x w ≡ o → is_some o ≡ true
+  advertises_at : (w : ℕ) (o : Option PrefixView) → unadvertised g u x w ≡ o → is_some o ≡ true
       → StepTo (telling_to x w o (telling_of g u x)) (λ v. steps.says_where (v == w) (steps.says_update g u x v o))
   advertises_at w None e h = absurd (cc h)
   advertises_at w (Some q) e h =
       let i : Update = telling_of g u x q in
       let event : ModelEvent = Advertise w q (UpdateMsg i) in
       let m : ModelRouter = router_after (network_of g) u n event in
-      let near = untold_near (linked g.net u w) (is_up (x.sides w)) (find (is_untold g u x w) (prefixes g)) q e in
-      let up = untold_up laws (linked g.net u w) (is_up (x.sides w)) (find (is_untold g u x w) (prefixes g)) q e in
-      let named = found_named (is_untold g u x w) g.net.origins q near.1 in
-      let other = found (is_untold g u x w) (prefixes g) q near.1 in
+      let near = untold_near (linked g.net u w) (is_up (x.sides w)) (find (is_unadvertised g u x w) (prefixes g)) q e in
+      let up = untold_up laws (linked g.net u w) (is_up (x.sides w)) (find (is_unadvertised g u x w) (prefixes g)) q e in
+      let named = found_named (is_unadvertised g u x w) g.net.origins q near.1 in
+      let other = found (is_unadvertised g u x w) (prefixes g) q near.1 in
       let kept : n.kept q ≡ x.kept q = ap (λ k. k q) reads.kept in
       let told_is = told_alike g (x.sides w) n.recorder.ends w q (alike.reads w near.0) in
       record {
@@ -235,8 +235,8 @@ module _ (laws : Laws) (g : Setting) (net : IsNetwork g.net) (u : ℕ) (far : �
           let same = same_number laws v w is in
           subst (λ y. IsTurned laws g u far Still v (told (x.sides v) (telling_of g u x q)) (Says (x.sides v).link.epoch (UpdateMsg (telling_of g u x q)) ∷ []) (before v ++ []) (n.recorder.ends v)
           (after (n.recorder.ends y) (Tells (UpdateMsg (telling_of g u x q))))) same
-          (told_turned v true (telling_of g u x q) near_v (λ t. ap (λ y. is_up (x.sides y)) same ∙ untold_up laws (linked g.net u w) (is_up (x.sides w)) (find (is_untold g u x w) (prefixes g)) q e))
+          (told_turned v true (telling_of g u x q) near_v (λ t. ap (λ y. is_up (x.sides y)) same ∙ untold_up laws (linked g.net u w) (is_up (x.sides w)) (find (is_unadvertised g u x w) (prefixes g)) q e))
       there v false is near_v = told_turned v false (telling_of g u x q) near_v (λ t. absurd (cc t))
 
   pub advertise_step : (w : ℕ) → May g u x (alone (Advertises w)) → StepTo (steps.after g u x (alone (Advertises w))) (says g u x (alone (Advertises w)))
-  advertise_step w may = advertises_at w (untold g u x w) refl may
+  advertise_step w may = advertises_at w (unadvertised g u x w) refl may

@@ -9,7 +9,7 @@ use Rattle.outbox.specs.declared.item.What.TheVariants as item
 use Rattle.router_model.specs.declared.command.Command.TheVariants as command
 use Rattle.router_model.specs.Settings.{Setting, linked}
 use Rattle.router_model.specs.Sides.{Side, NoMessage, at_hand, carried, front, without_front, fed, uses, told, marked, is_up}
-use Rattle.router_model.specs.State.{Router, rule_of, route, undecided, untold}
+use Rattle.router_model.specs.State.{Router, rule_of, best_path, undecided, unadvertised}
 use Rattle.router_model.specs.Step.{RouterEvent, Obeys, Ticks, Handles, Decides, Advertises, after, meets_at, resets_at, second_at, signed_at, handled_at, heeds, is_greater, put_from, telling_to, telling_of}
 use Rattle.router_runs.proofs.Lower.{Laws}
 use Rattle.router_runs.proofs.Events.{keeps_sides, marked_side}
@@ -36,8 +36,8 @@ module _ (laws : Laws) (g : Setting) (u v : ℕ) (x : Router) where
       let s : Side = cond (v == w) (without_front (x.sides v)) (x.sides v) in
       where_moved (v == w) s (carried (at_hand (front (rule_of g.net u w) (x.sides w).held)) s (handled_at g u x w)) refl
       ∙ where_moved (v == w) (x.sides v) (without_front (x.sides v)) refl
-  keeps_width (alone Decides) = ap (λ (s : Side). s.width) (keeps_sides laws x (undecided g u x) (route g u x) v)
-  keeps_width (alone (Advertises w)) = where_told v w x (untold g u x w) (telling_of g u x)
+  keeps_width (alone Decides) = ap (λ (s : Side). s.width) (keeps_sides laws x (undecided g u x) (best_path g u x) v)
+  keeps_width (alone (Advertises w)) = where_told v w x (unadvertised g u x w) (telling_of g u x)
   keeps_width (puts w i) = where_moved (v == w) (x.sides v) (put_from (x.sides v) i) refl
   keeps_width (takes w (item.Dial e)) = where_moved (v == w) (x.sides v) (carried NoMessage (x.sides v) (signed_at g u x w (sign.Dial e))) refl
   keeps_width (takes w (item.Piece e octets)) =

@@ -20,7 +20,7 @@ use Rattle.run_model.specs.Routes as routes
 use Rattle.router_model.specs.Messages.{updates_in, is_update}
 use Rattle.router_model.specs.Settings.{Setting, linked, peers, names, prefixes}
 use Rattle.router_model.specs.Sides.{Side, is_up}
-use Rattle.router_model.specs.State.{Router, heard, last_told, same_path, route, is_undecided, is_untold, is_waiting_peer, is_pending}
+use Rattle.router_model.specs.State.{Router, heard, last_told, same_path, best_path, is_undecided, is_unadvertised, is_waiting_peer, is_pending}
 use Rattle.router_runs.specs.Model.{announced_mentions, mentions, network_of}
 use Rattle.router_runs.specs.Reading.{Reads}
 use Rattle.router_runs.specs.Mirrors.{AreAlike}
@@ -78,7 +78,7 @@ same_words true b c old new h = (let s = h refl in ap (λ k. cond k old []) s.0 
 same_words false b c old new h = refl
 
 -- the route is the same
-pub routes_alike : (g : Setting) (u : ℕ) (x : Router) (ends : ℕ → End Message) → AreAlike g u x ends → (q : PrefixView) → routes.route (network_of g) u ends q (x.originated q) ≡ route g u x q
+pub routes_alike : (g : Setting) (u : ℕ) (x : Router) (ends : ℕ → End Message) → AreAlike g u x ends → (q : PrefixView) → routes.route (network_of g) u ends q (x.originated q) ≡ best_path g u x q
 routes_alike g u x ends alike q =
     ap (λ words. g.best u q (x.originated q) words)
     (fun_ext (λ v. same_words (linked g.net u v) (links.is_up (ends v)) (is_up (x.sides v)) (routes.heard_word (network_of g) ends v q) (path_in (heard (x.sides v) q))
@@ -168,20 +168,20 @@ module _ (laws : Laws) where
       → routes.IsNotPending (network_of g) u ends x.kept x.originated
   calm g net u x ends alike h =
       let s = neither (list_any (is_undecided g u x) (prefixes g)) (list_any (is_waiting_peer g u x) (peers g.net u)) h in (
-        λ q m. same_if (x.kept q) (route g u x q) (same_path (x.kept q) (route g u x q)) refl (none_named (is_undecided g u x) g.net.origins q s.0 m) ∙ sym (routes_alike g u x ends alike q),
+        λ q m. same_if (x.kept q) (best_path g u x q) (same_path (x.kept q) (best_path g u x q)) refl (none_named (is_undecided g u x) g.net.origins q s.0 m) ∙ sym (routes_alike g u x ends alike q),
         λ v q near up m.
-            let quiet = waits_not (is_up (x.sides v)) (list_any (is_untold g u x v) (prefixes g)) (none_of (is_waiting_peer g u x) (peers g.net u) v s.1 (laws.links g.net net u v near).peer) (sym (alike.up v near) ∙ up) in
+            let quiet = waits_not (is_up (x.sides v)) (list_any (is_unadvertised g u x v) (prefixes g)) (none_of (is_waiting_peer g u x) (peers g.net u) v s.1 (laws.links g.net net u v near).peer) (sym (alike.up v near) ∙ up) in
             told_alike g (x.sides v) ends v q (alike.reads v near)
-            ∙ sym (same_if (x.kept q) (path_in (last_told (x.sides v) q)) (same_path (x.kept q) (path_in (last_told (x.sides v) q))) refl (none_named (is_untold g u x v) g.net.origins q quiet m)),
+            ∙ sym (same_if (x.kept q) (path_in (last_told (x.sides v) q)) (same_path (x.kept q) (path_in (last_told (x.sides v) q))) refl (none_named (is_unadvertised g u x v) g.net.origins q quiet m)),
       )
 
   flagged : (g : Setting) → IsNetwork g.net → (u : ℕ) (x : Router) (ends : ℕ → End Message) → AreAlike g u x ends
       → routes.IsNotPending (network_of g) u ends x.kept x.originated → is_pending g u x ≡ false
   flagged g net u x ends alike c =
       both (list_any (is_undecided g u x) (prefixes g)) (list_any (is_waiting_peer g u x) (peers g.net u))
-      (all_named (is_undecided g u x) g.net.origins (λ q m. if_same (x.kept q) (route g u x q) (same_path (x.kept q) (route g u x q)) refl (c.0 q m ∙ routes_alike g u x ends alike q)))
-      (all_of (is_waiting_peer g u x) (linked g.net u) (numbers g.net.routers) (λ v near. not_waiting (is_up (x.sides v)) (list_any (is_untold g u x v) (prefixes g))
-      (λ up. all_named (is_untold g u x v) g.net.origins (λ q m. if_same (x.kept q) (path_in (last_told (x.sides v) q)) (same_path (x.kept q) (path_in (last_told (x.sides v) q))) refl
+      (all_named (is_undecided g u x) g.net.origins (λ q m. if_same (x.kept q) (best_path g u x q) (same_path (x.kept q) (best_path g u x q)) refl (c.0 q m ∙ routes_alike g u x ends alike q)))
+      (all_of (is_waiting_peer g u x) (linked g.net u) (numbers g.net.routers) (λ v near. not_waiting (is_up (x.sides v)) (list_any (is_unadvertised g u x v) (prefixes g))
+      (λ up. all_named (is_unadvertised g u x v) g.net.origins (λ q m. if_same (x.kept q) (path_in (last_told (x.sides v) q)) (same_path (x.kept q) (path_in (last_told (x.sides v) q))) refl
       (sym (c.1 v q near (alike.up v near ∙ up) m) ∙ told_alike g (x.sides v) ends v q (alike.reads v near))))))
 
   -- nothing is pending in the one exactly where nothing is in the other

@@ -16,7 +16,7 @@ use Rattle.snap_marker.specs.Recordings.{RouterPart, MadeOffer, Snapshots}
 use Rattle.router_model.specs.declared.command.Command.TheVariants as command
 use Rattle.router_model.specs.Settings.{Setting, IsSetting, is_router, linked, names}
 use Rattle.router_model.specs.Sides.{is_up}
-use Rattle.router_model.specs.State.{Router, route, is_pending}
+use Rattle.router_model.specs.State.{Router, best_path, is_pending}
 use Rattle.router_model.specs.Step.{Own, RouterEvent, Obeys, Ticks, Handles, Decides, Advertises}
 use Rattle.router_model.specs.Laws.{all_passes}
 use Rattle.router_model.specs.Recording.{IsRecording, LeavesFirst}
@@ -164,7 +164,7 @@ IsQuietSince g s order last =
 
 -- at a place of the run, these are a router's kept path and its route for the prefix
 abbrev pub HasRoute : Setting → RunState → ℕ → PrefixView → List ℕ → Type 0
-HasRoute g at u q path = ((at.routers u).router.kept q ≡ path) × (route g u (at.routers u).router q ≡ path)
+HasRoute g at u q path = ((at.routers u).router.kept q ≡ path) × (best_path g u (at.routers u).router q ≡ path)
 
 -- the paths of a settled snapshot are every router's kept paths and routes at every place from its own recording on up to which
 -- the run is quiet

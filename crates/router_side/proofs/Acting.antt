@@ -21,7 +21,7 @@ use Rattle.bgp_codec.specs.Updates.{octet_count, UpdateFits, begins_with, is_fro
 use Rattle.bgp_codec.specs.Faults.{reading, PeersWritingIsRead}
 use Rattle.bgp_codec.specs.Header.{IsFrame, HeaderIsItsFront, header_fault, length_field}
 use Rattle.bgp_codec.specs.Spelling.{written}
-use Rattle.router_model.specs.Sides.{Side, HasUpdate, is_up, is_established, front, read_front, handled, comes, obeys, carried, with_update, rest_behind, without_front}
+use Rattle.router_model.specs.Sides.{Side, HasUpdate, is_up, is_established, front, read_front, draft_message, react, apply, carried, with_update, rest_behind, without_front}
 use Rattle.router_model.specs.State.{withdrawal, announcement, telling}
 use Rattle.router_side.specs.Acting.{UpdatesAreActedOn, TellingsAreSayable, IsToldBy, IsRouteInFront}
 use Rattle.router_side.specs.Layout.{address, withdrawal_front, announcement_front, announcement_hop, IsWithdrawal, IsAnnouncement}
@@ -31,8 +31,8 @@ use Rattle.router_side.proofs.Spelt.{address_length, withdrawal_whole, announcem
 
 -- ---- an UPDATE in Established
 
-acted_at : (o : Message) (u : Update) (s : Side) (state : State) → s.session.state ≡ state → is_established state ≡ true → handled o (Ok (UpdateMsg u)) s ≡ acting s
-unfolding comes obeys
+acted_at : (o : Message) (u : Update) (s : Side) (state : State) → s.session.state ≡ state → is_established state ≡ true → draft_message o (Ok (UpdateMsg u)) s ≡ acting s
+unfolding react apply
 acted_at o u s Idle is up = absurd cc
 acted_at o u s Connect is up = absurd cc
 acted_at o u s Active is up = absurd cc

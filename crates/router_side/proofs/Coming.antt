@@ -6,7 +6,7 @@ use Rattle.bgp_codec.specs.declared.message.Message.{Message}
 use Rattle.bgp_codec.specs.declared.message.Message.TheVariants.{OpenMsg, UpdateMsg, NoticeMsg, AliveMsg}
 use Rattle.bgp_codec.specs.declared.fault.Fault.{Fault}
 use Rattle.bgp_codec.specs.declared.update.Update.{Update}
-use Rattle.link_epoch.specs.Ends.{LinkView, is_awaited, next_number, number_shut, heard_by, meaning_of, meaning_of_dial, phase_at_dial}
+use Rattle.link_epoch.specs.Ends.{LinkView, is_joinable, next_number, number_shut, heard_by, meaning_of, meaning_of_dial, phase_at_dial}
 use Rattle.link_epoch.specs.declared.link_end.Phase.TheVariants.{Shut}
 use Rattle.link_epoch.specs.declared.link_end.Sign.{Sign}
 use Rattle.link_epoch.specs.declared.link_end.Sign.TheVariants as sign
@@ -19,16 +19,16 @@ use Rattle.session_fsm.specs.declared.event.FsmEvent.TheVariants as event
 use Rattle.session_fsm.specs.declared.actions.Action.{Action}
 use Rattle.session_fsm.specs.declared.actions.Action.TheVariants as action
 use Rattle.session_fsm.specs.Table.{SessionView, on_event}
-use Rattle.router_model.specs.Sides.{Side, Draft, AtHand, NoMessage, HasFault, HasUpdate, dials, does, obeys, obeys_all, comes, tells_fault, shuts, hangs_up, fits, answers, is_connecting, signed, handled, event_of, at_hand, draft_of, acted_with, is_established, without_front, carried}
+use Rattle.router_model.specs.Sides.{Side, Draft, AtHand, NoMessage, HasFault, HasUpdate, dials, apply_once, apply, apply_all, react, tells_fault, shuts, hangs_up, fits, react_to_sign, is_connecting, draft_sign, draft_message, event_of, at_hand, draft_of, acted_with, is_established, without_front, carried}
 use Rattle.router_side.specs.Freshness.{is_opening, is_away, IsFresh, SignsKeepFresh, ActsWhereUp, MessagesKeepFresh}
 use Rattle.router_side.proofs.Fresh.{no_dial, acts_in, row, connects, quiet, Dialled, moves_dialled, number_by, Moves, comes_moves, keeps_fresh, not_onward, unsaid_on, unsaid_up}
 
 -- ---- a sign of the peer
 
 -- a dial in answer to an offer
-offered_at : (o : Message) (a : Draft) (c : State) (f w : Bool) → a.session.state ≡ c → is_connecting c ≡ true → fits (next_number a.link) ≡ f → is_awaited a.link ≡ w
-    → (comes o NoMessage (dials a) event.TcpConnectionConfirmed).overflows ≡ false → Dialled a.link (comes o NoMessage (dials a) event.TcpConnectionConfirmed)
-unfolding comes obeys
+offered_at : (o : Message) (a : Draft) (c : State) (f w : Bool) → a.session.state ≡ c → is_connecting c ≡ true → fits (next_number a.link) ≡ f → is_joinable a.link ≡ w
+    → (react o NoMessage (dials a) event.TcpConnectionConfirmed).overflows ≡ false → Dialled a.link (react o NoMessage (dials a) event.TcpConnectionConfirmed)
+unfolding react apply
 offered_at o a Connect true w st k ef ew h = record { epoch = rw (ef, st, ew) (number_by a.link w ew); away = rw (ef, st) refl }
 offered_at o a Active true w st k ef ew h = record { epoch = rw (ef, st, ew) (number_by a.link w ew); away = rw (ef, st) refl }
 offered_at o a Connect false w st k ef ew h = (let n = rw (ef, st) at h in absurd cc)
@@ -48,26 +48,26 @@ stays : (c : State) (k l : LinkView) (x : SessionView) → x.state ≡ c → l.e
 stays c k l x st e w = record { onward = inr (e, rw st (omega arith)); away = λ t. w (ap is_away (sym st) ∙ t) }
 
 offered_by : (o : Message) (s : Side) (l : LinkView) (b : Bool) → is_connecting s.session.state ≡ b → l.epoch ≡ s.link.epoch → (is_away s.session.state ≡ true → l.phase ≡ Shut)
-    → (cond b (comes o NoMessage (dials (draft_of s.session l)) event.TcpConnectionConfirmed) (draft_of s.session l)).overflows ≡ false
-    → Moves s.session.state s.link (cond b (comes o NoMessage (dials (draft_of s.session l)) event.TcpConnectionConfirmed) (draft_of s.session l))
+    → (cond b (react o NoMessage (dials (draft_of s.session l)) event.TcpConnectionConfirmed) (draft_of s.session l)).overflows ≡ false
+    → Moves s.session.state s.link (cond b (react o NoMessage (dials (draft_of s.session l)) event.TcpConnectionConfirmed) (draft_of s.session l))
 offered_by o s l true k e w h =
     let a = draft_of s.session l in
-    moves_from s.session.state s.link l (comes o NoMessage (dials a) event.TcpConnectionConfirmed) e
-    (moves_dialled s.session.state l (comes o NoMessage (dials a) event.TcpConnectionConfirmed)
-    (offered_at o a s.session.state (fits (next_number l)) (is_awaited l) refl k refl refl h))
+    moves_from s.session.state s.link l (react o NoMessage (dials a) event.TcpConnectionConfirmed) e
+    (moves_dialled s.session.state l (react o NoMessage (dials a) event.TcpConnectionConfirmed)
+    (offered_at o a s.session.state (fits (next_number l)) (is_joinable l) refl k refl refl h))
 offered_by o s l false k e w h = stays s.session.state s.link l s.session refl e w
 
 answers_by : (o : Message) (s : Side) (l : LinkView) (h : Heard) → l.epoch ≡ s.link.epoch → (is_away s.session.state ≡ true → l.phase ≡ Shut) → (h ≡ heard.Joined → is_away s.session.state ≡ false)
-    → (answers o (draft_of s.session l) h).overflows ≡ false → Moves s.session.state s.link (answers o (draft_of s.session l) h)
-unfolding answers
+    → (react_to_sign o (draft_of s.session l) h).overflows ≡ false → Moves s.session.state s.link (react_to_sign o (draft_of s.session l) h)
+unfolding react_to_sign
 answers_by o s l heard.Quiet e w j h = stays s.session.state s.link l s.session refl e w
 answers_by o s l heard.Joined e w j h =
     let a = draft_of s.session l in
-    moves_from s.session.state s.link l (comes o NoMessage a event.TcpCrAcked) e (comes_moves o NoMessage a event.TcpCrAcked w (λ t. (let n = sym (j refl) ∙ t in absurd cc)) h)
+    moves_from s.session.state s.link l (react o NoMessage a event.TcpCrAcked) e (comes_moves o NoMessage a event.TcpCrAcked w (λ t. (let n = sym (j refl) ∙ t in absurd cc)) h)
 answers_by o s l (heard.Offered n) e w j h = offered_by o s l (is_connecting s.session.state) refl e w h
 answers_by o s l heard.Closed e w j h =
     let a = draft_of s.session l in
-    moves_from s.session.state s.link l (comes o NoMessage a event.TcpConnectionFails) e (comes_moves o NoMessage a event.TcpConnectionFails w (λ t. refl) h)
+    moves_from s.session.state s.link l (react o NoMessage a event.TcpConnectionFails) e (comes_moves o NoMessage a event.TcpConnectionFails w (λ t. refl) h)
 
 dial_epoch : (l : LinkView) (n : ℕ) (b : Bool) → (cond b (record { epoch = l.epoch; heard = n; heard_is_shut = false; phase = phase_at_dial l.phase (n == l.epoch) }) l).epoch ≡ l.epoch
 dial_epoch l n true = refl
@@ -110,7 +110,7 @@ is_false false n = refl
 
 pub signs_keep_fresh : SignsKeepFresh
 signs_keep_fresh o s x f h =
-    keeps_fresh s (signed o s x) f
+    keeps_fresh s (draft_sign o s x) f
     (answers_by o s (heard_by s.link x) (meaning_of s.link x) (same_epoch s.link x) (λ t. stays_shut s.link x (f.away t))
     (λ j. is_false (is_away s.session.state) (λ t. joins_shut s.link x (f.away t) j)) h)
 
@@ -169,18 +169,18 @@ or_false : (b : Bool) → (b || false) ≡ b
 or_false true = refl
 or_false false = refl
 
-acts_all : (o : Message) (g : AtHand) (a : Draft) (xs : List Action) → no_dial xs ≡ true → (obeys_all o g a xs).acts ≡ (a.acts || acts_in xs)
-unfolding obeys
+acts_all : (o : Message) (g : AtHand) (a : Draft) (xs : List Action) → no_dial xs ≡ true → (apply_all o g a xs).acts ≡ (a.acts || acts_in xs)
+unfolding apply
 acts_all o g a [] n = sym (or_false a.acts)
 acts_all o g a (action.Dial ∷ xs) n = absurd cc
-acts_all o g a (action.SendOpen ∷ xs) n = acts_all o g (does o g a action.SendOpen) xs n
-acts_all o g a (action.SendAlive ∷ xs) n = acts_all o g (does o g a action.SendAlive) xs n
-acts_all o g a (action.SendNotice code ∷ xs) n = acts_all o g (does o g a (action.SendNotice code)) xs n
+acts_all o g a (action.SendOpen ∷ xs) n = acts_all o g (apply_once o g a action.SendOpen) xs n
+acts_all o g a (action.SendAlive ∷ xs) n = acts_all o g (apply_once o g a action.SendAlive) xs n
+acts_all o g a (action.SendNotice code ∷ xs) n = acts_all o g (apply_once o g a (action.SendNotice code)) xs n
 acts_all o g a (action.SendGiven ∷ xs) n = acts_all o g (tells_fault a g) xs n ∙ ap (λ (b : Bool). b || acts_in xs) (given_acts a g)
 acts_all o g a (action.HangUp ∷ xs) n = acts_all o g (hangs_up a) xs n ∙ ap (λ (b : Bool). b || acts_in xs) (shuts_acts a (number_shut a.link))
-acts_all o g a (action.Act ∷ xs) n = acts_all o g (does o g a action.Act) xs n ∙ sym (or_true a.acts)
+acts_all o g a (action.Act ∷ xs) n = acts_all o g (apply_once o g a action.Act) xs n ∙ sym (or_true a.acts)
 acts_all o g a (action.Up ∷ xs) n = acts_all o g a xs n
-acts_all o g a (action.Down ∷ xs) n = acts_all o g (does o g a action.Down) xs n
+acts_all o g a (action.Down ∷ xs) n = acts_all o g (apply_once o g a action.Down) xs n
 
 -- what handling leaves: its session and link, and whether it acts
 record Handled (s : Side) (e : FsmEvent) (a : Draft) : Type 0 where
@@ -190,8 +190,8 @@ record Handled (s : Side) (e : FsmEvent) (a : Draft) : Type 0 where
   acts : a.acts ≡ acts_in (on_event s.session e).actions
   moves : Moves s.session.state s.link a
 
-handles : (o : Message) (g : AtHand) (s : Side) (e : FsmEvent) → of_message e ≡ true → IsFresh s → Handled s e (comes o g (draft_of s.session s.link) e)
-unfolding comes
+handles : (o : Message) (g : AtHand) (s : Side) (e : FsmEvent) → of_message e ≡ true → IsFresh s → Handled s e (react o g (draft_of s.session s.link) e)
+unfolding react
 handles o g s e h f =
     let xs = (on_event s.session e).actions in
     let b = record (draft_of s.session s.link) { session = (on_event s.session e).session } in
@@ -233,7 +233,7 @@ handled_keeps g s e a f d = record {
 pub messages_keep_fresh : MessagesKeepFresh
 messages_keep_fresh o m s f =
     let e = event_of m in
-    let a = handled o m s in
+    let a = draft_message o m s in
     let d = handles o (at_hand m) s e (is_of_message m) f in
     record {
       fits = d.fits;

@@ -3,7 +3,7 @@ use Rattle.std.proofs.Common.{◌≡◌, ℕ, ◌+◌, ◌<◌, ◌≤◌, ◌==
 use Rattle.std.specs.Prelude.{nat_lt, max}
 use Rattle.std.proofs.lemmas.Bool.Decides.{nat_tests}
 use Rattle.bgp_codec.specs.declared.message.Message.{Message}
-use Rattle.link_epoch.specs.Ends.{LinkView, is_awaited, next_number, number_shut}
+use Rattle.link_epoch.specs.Ends.{LinkView, is_joinable, next_number, number_shut}
 use Rattle.link_epoch.specs.declared.link_end.Phase.TheVariants.{Shut}
 use Rattle.session_fsm.specs.declared.state.State.{State}
 use Rattle.session_fsm.specs.declared.state.State.TheVariants.{Idle, Connect, Active, OpenSent, OpenConfirm, Established}
@@ -12,10 +12,10 @@ use Rattle.session_fsm.specs.declared.event.FsmEvent.TheVariants as event
 use Rattle.session_fsm.specs.declared.actions.Action.{Action}
 use Rattle.session_fsm.specs.declared.actions.Action.TheVariants as action
 use Rattle.session_fsm.specs.Table.{SessionView, Outcome, on_state, on_event}
-use Rattle.router_model.specs.Sides.{Draft, AtHand, NoMessage, HasFault, HasUpdate, does, meets, obeys, obeys_all, comes, hangs_up, shuts, tells_fault, fits}
+use Rattle.router_model.specs.Sides.{Draft, AtHand, NoMessage, HasFault, HasUpdate, apply_once, react_once, apply, apply_all, react, hangs_up, shuts, tells_fault, fits}
 use Rattle.bgp_codec.specs.declared.update.Update.{Update}
 use Rattle.session_fsm.specs.Timers.{ticked, runs_out}
-use Rattle.router_model.specs.Sides.{Side, acted_with, is_established, is_up, draft_of, met, reset, second, expires}
+use Rattle.router_model.specs.Sides.{Side, acted_with, is_established, is_up, draft_of, draft_event, draft_reset, draft_second, expires}
 use Rattle.router_side.specs.Freshness.{is_opening, is_away, IsUnsaid, IsFresh, KeepsFresh, SessionsKeepFresh}
 
 abbrev pub rank : State → ℕ
@@ -110,15 +110,15 @@ still_shut : (a d : Draft) (hung : Bool) → a.link.phase ≡ Shut → Quiet a d
 still_shut a d true s q = q.phase refl
 still_shut a d false s q = q.same refl ∙ s
 
-pub quiet : (own_open : Message) (g : AtHand) (a : Draft) (xs : List Action) → no_dial xs ≡ true → Quiet a (obeys_all own_open g a xs) (hangs xs)
-unfolding obeys
+pub quiet : (own_open : Message) (g : AtHand) (a : Draft) (xs : List Action) → no_dial xs ≡ true → Quiet a (apply_all own_open g a xs) (hangs xs)
+unfolding apply
 quiet o g a [] n = record { session = refl; epoch = refl; overflows = refl; phase = λ h. absurd cc; same = λ h. refl }
 quiet o g a (action.Dial ∷ xs) n = absurd cc
-quiet o g a (action.SendOpen ∷ xs) n = let b = does o g a action.SendOpen in quiet_on a b (obeys_all o g b xs) (hangs xs) refl refl refl (quiet o g b xs n)
-quiet o g a (action.SendAlive ∷ xs) n = let b = does o g a action.SendAlive in quiet_on a b (obeys_all o g b xs) (hangs xs) refl refl refl (quiet o g b xs n)
-quiet o g a (action.SendNotice code ∷ xs) n = let b = does o g a (action.SendNotice code) in quiet_on a b (obeys_all o g b xs) (hangs xs) refl refl refl (quiet o g b xs n)
+quiet o g a (action.SendOpen ∷ xs) n = let b = apply_once o g a action.SendOpen in quiet_on a b (apply_all o g b xs) (hangs xs) refl refl refl (quiet o g b xs n)
+quiet o g a (action.SendAlive ∷ xs) n = let b = apply_once o g a action.SendAlive in quiet_on a b (apply_all o g b xs) (hangs xs) refl refl refl (quiet o g b xs n)
+quiet o g a (action.SendNotice code ∷ xs) n = let b = apply_once o g a (action.SendNotice code) in quiet_on a b (apply_all o g b xs) (hangs xs) refl refl refl (quiet o g b xs n)
 quiet o g a (action.SendGiven ∷ xs) n =
-    let b = does o g a action.SendGiven in quiet_on a b (obeys_all o g b xs) (hangs xs) (given_session a g) (given_link a g) (given_overflows a g) (quiet o g b xs n)
+    let b = apply_once o g a action.SendGiven in quiet_on a b (apply_all o g b xs) (hangs xs) (given_session a g) (given_link a g) (given_overflows a g) (quiet o g b xs n)
 quiet o g a (action.HangUp ∷ xs) n =
     let b = hangs_up a in
     let q = quiet o g b xs n in
@@ -126,12 +126,12 @@ quiet o g a (action.HangUp ∷ xs) n =
       session = q.session ∙ shuts_session a (number_shut a.link);
       epoch = q.epoch;
       overflows = q.overflows ∙ shuts_overflows a (number_shut a.link);
-      phase = λ h. still_shut b (obeys_all o g b xs) (hangs xs) refl q;
+      phase = λ h. still_shut b (apply_all o g b xs) (hangs xs) refl q;
       same = λ h. absurd cc;
     }
-quiet o g a (action.Act ∷ xs) n = let b = does o g a action.Act in quiet_on a b (obeys_all o g b xs) (hangs xs) refl refl refl (quiet o g b xs n)
+quiet o g a (action.Act ∷ xs) n = let b = apply_once o g a action.Act in quiet_on a b (apply_all o g b xs) (hangs xs) refl refl refl (quiet o g b xs n)
 quiet o g a (action.Up ∷ xs) n = quiet o g a xs n
-quiet o g a (action.Down ∷ xs) n = let b = does o g a action.Down in quiet_on a b (obeys_all o g b xs) (hangs xs) refl refl refl (quiet o g b xs n)
+quiet o g a (action.Down ∷ xs) n = let b = apply_once o g a action.Down in quiet_on a b (apply_all o g b xs) (hangs xs) refl refl refl (quiet o g b xs n)
 
 -- ---- a dial
 
@@ -139,7 +139,7 @@ number_awaited : (l : LinkView) (b c : Bool) → nat_lt l.epoch l.heard ≡ b �
 number_awaited l true c e h = grind (arith, nat_tests, e)
 number_awaited l false c e h = absurd cc
 
-pub number_by : (l : LinkView) (w : Bool) → is_awaited l ≡ w → l.epoch < cond w l.heard (max l.epoch l.heard + 1)
+pub number_by : (l : LinkView) (w : Bool) → is_joinable l ≡ w → l.epoch < cond w l.heard (max l.epoch l.heard + 1)
 number_by l true e = number_awaited l (nat_lt l.epoch l.heard) l.heard_is_shut refl e
 number_by l false e = omega arith
 
@@ -148,16 +148,16 @@ pub record Dialled (l : LinkView) (a : Draft) : Type 0 where
   pub epoch : l.epoch < a.link.epoch
   pub away : is_away a.session.state ≡ false
 
-dial_by : (o : Message) (g : AtHand) (b : Draft) (f w : Bool) → b.session.state ≡ Connect → fits (next_number b.link) ≡ f → is_awaited b.link ≡ w → (obeys o g b action.Dial).overflows ≡ false
-    → Dialled b.link (obeys o g b action.Dial)
-unfolding obeys meets
+dial_by : (o : Message) (g : AtHand) (b : Draft) (f w : Bool) → b.session.state ≡ Connect → fits (next_number b.link) ≡ f → is_joinable b.link ≡ w → (apply o g b action.Dial).overflows ≡ false
+    → Dialled b.link (apply o g b action.Dial)
+unfolding apply react_once
 dial_by o g b true true st ef ew h = record { epoch = rw (ef, ew, st) (number_by b.link true ew); away = rw (ef, ew, st) refl }
 dial_by o g b true false st ef ew h = record { epoch = rw (ef, ew) (number_by b.link false ew); away = rw (ef, ew, st) refl }
 dial_by o g b false true st ef ew h = (let k = rw (ef, ew, st) at h in absurd cc)
 dial_by o g b false false st ef ew h = (let k = rw (ef, ew) at h in absurd cc)
 
-dial_goes : (o : Message) (g : AtHand) (b : Draft) → b.session.state ≡ Connect → (obeys o g b action.Dial).overflows ≡ false → Dialled b.link (obeys o g b action.Dial)
-dial_goes o g b st h = dial_by o g b (fits (next_number b.link)) (is_awaited b.link) st refl refl h
+dial_goes : (o : Message) (g : AtHand) (b : Draft) → b.session.state ≡ Connect → (apply o g b action.Dial).overflows ≡ false → Dialled b.link (apply o g b action.Dial)
+dial_goes o g b st h = dial_by o g b (fits (next_number b.link)) (is_joinable b.link) st refl refl h
 
 -- ---- an event
 
@@ -168,25 +168,25 @@ pub record Moves (c : State) (l : LinkView) (a : Draft) : Type 0 where
 pub moves_dialled : (c : State) (l : LinkView) (a : Draft) → Dialled l a → Moves c l a
 moves_dialled c l a d = record { onward = inl d.epoch; away = λ h. (let k = sym d.away ∙ h in absurd cc) }
 
-one_dial : (o : Message) (g : AtHand) (b : Draft) (xs : List Action) → xs ≡ action.Dial ∷ [] → b.session.state ≡ Connect → (obeys_all o g b xs).overflows ≡ false → Dialled b.link (obeys_all o g b xs)
+one_dial : (o : Message) (g : AtHand) (b : Draft) (xs : List Action) → xs ≡ action.Dial ∷ [] → b.session.state ≡ Connect → (apply_all o g b xs).overflows ≡ false → Dialled b.link (apply_all o g b xs)
 one_dial o g b xs is st h =
-    subst (λ (ys : List Action). Dialled b.link (obeys_all o g b ys)) (sym is) (dial_goes o g b st (subst (λ (ys : List Action). (obeys_all o g b ys).overflows ≡ false) is h))
+    subst (λ (ys : List Action). Dialled b.link (apply_all o g b ys)) (sym is) (dial_goes o g b st (subst (λ (ys : List Action). (apply_all o g b ys).overflows ≡ false) is h))
 
-hang_first : (o : Message) (g : AtHand) (b : Draft) → obeys o g b action.HangUp ≡ hangs_up b
-unfolding obeys
+hang_first : (o : Message) (g : AtHand) (b : Draft) → apply o g b action.HangUp ≡ hangs_up b
+unfolding apply
 hang_first o g b = refl
 
-dial_again : (o : Message) (g : AtHand) (b : Draft) (xs : List Action) → xs ≡ action.HangUp ∷ action.Dial ∷ [] → b.session.state ≡ Connect → (obeys_all o g b xs).overflows ≡ false → Dialled b.link (obeys_all o g b xs)
+dial_again : (o : Message) (g : AtHand) (b : Draft) (xs : List Action) → xs ≡ action.HangUp ∷ action.Dial ∷ [] → b.session.state ≡ Connect → (apply_all o g b xs).overflows ≡ false → Dialled b.link (apply_all o g b xs)
 dial_again o g b xs is st h =
-    let both : obeys_all o g b xs ≡ obeys o g (hangs_up b) action.Dial =
-    ap (obeys_all o g b) is ∙ ap (λ (w : Draft). obeys o g w action.Dial) (hang_first o g b) in
+    let both : apply_all o g b xs ≡ apply o g (hangs_up b) action.Dial =
+    ap (apply_all o g b) is ∙ ap (λ (w : Draft). apply o g w action.Dial) (hang_first o g b) in
     let up : (hangs_up b).session.state ≡ Connect = ap (λ (w : SessionView). w.state) (shuts_session b (number_shut b.link)) ∙ st in
     let d = dial_goes o g (hangs_up b) up (subst (λ (w : Draft). w.overflows ≡ false) both h) in
     subst (λ (w : Draft). Dialled b.link w) (sym both) (record { epoch = d.epoch; away = d.away })
 
 comes_by : (o : Message) (g : AtHand) (a : Draft) (e : FsmEvent) (b : Bool) → no_dial (on_event a.session e).actions ≡ b → (is_away a.session.state ≡ true → a.link.phase ≡ Shut)
-    → (is_away a.session.state ≡ true → connects e ≡ false) → (comes o g a e).overflows ≡ false → Moves a.session.state a.link (comes o g a e)
-unfolding comes
+    → (is_away a.session.state ≡ true → connects e ≡ false) → (react o g a e).overflows ≡ false → Moves a.session.state a.link (react o g a e)
+unfolding react
 comes_by o g a e true n s k h =
     let xs = (on_event a.session e).actions in
     let b = record a { session = (on_event a.session e).session } in
@@ -196,21 +196,21 @@ comes_by o g a e true n s k h =
       away = λ w.
           elim (goes_away a.session.state a.session e n (ap (λ (v : SessionView). is_away v.state) (sym q.session) ∙ w)) [
             | inl t ↦ q.phase t
-            | inr t ↦ still_shut b (obeys_all o g b xs) (hangs xs) (s t) q
+            | inr t ↦ still_shut b (apply_all o g b xs) (hangs xs) (s t) q
           ];
     }
 comes_by o g a e false n s k h =
     let xs = (on_event a.session e).actions in
     let b = record a { session = (on_event a.session e).session } in
     let d = dials_from a.session.state a.session e n in
-    moves_dialled a.session.state a.link (obeys_all o g b xs) (
+    moves_dialled a.session.state a.link (apply_all o g b xs) (
     elim d.1 [
       | inl t ↦ one_dial o g b xs t d.0 h
       | inr t ↦ dial_again o g b xs t d.0 h
     ])
 
 pub comes_moves : (o : Message) (g : AtHand) (a : Draft) (e : FsmEvent) → (is_away a.session.state ≡ true → a.link.phase ≡ Shut) → (is_away a.session.state ≡ true → connects e ≡ false)
-    → (comes o g a e).overflows ≡ false → Moves a.session.state a.link (comes o g a e)
+    → (react o g a e).overflows ≡ false → Moves a.session.state a.link (react o g a e)
 comes_moves o g a e s k h = comes_by o g a e (no_dial (on_event a.session e).actions) refl s k h
 
 -- ---- what a draft leaves
@@ -263,14 +263,14 @@ keeps_fresh s a f m =
 stop_dials_nothing : (st : State) (a : SessionView) → no_dial (row st a event.ManualStop).actions ≡ true
 stop_dials_nothing st a = grind arith
 
-stop_fits : (o : Message) (s : Side) → (met o s event.ManualStop).overflows ≡ false
-unfolding comes
+stop_fits : (o : Message) (s : Side) → (draft_event o s event.ManualStop).overflows ≡ false
+unfolding react
 stop_fits o s =
     let xs = (on_event s.session event.ManualStop).actions in
     let b = record (draft_of s.session s.link) { session = (on_event s.session event.ManualStop).session } in
     (quiet o NoMessage b xs (stop_dials_nothing s.session.state s.session)).overflows
 
-met_moves : (o : Message) (s : Side) (e : FsmEvent) → IsFresh s → connects e ≡ false → (met o s e).overflows ≡ false → Moves s.session.state s.link (met o s e)
+met_moves : (o : Message) (s : Side) (e : FsmEvent) → IsFresh s → connects e ≡ false → (draft_event o s e).overflows ≡ false → Moves s.session.state s.link (draft_event o s e)
 met_moves o s e f k h = comes_moves o NoMessage (draft_of s.session s.link) e f.away (λ t. k) h
 
 both_move : (c : State) (l : LinkView) (a b : Draft) → Moves c l a → Moves a.session.state a.link b → Moves c l b
@@ -298,11 +298,11 @@ second_by o s (Some e) is f h =
 
 pub sessions_keep_fresh : SessionsKeepFresh
 sessions_keep_fresh o s f = record {
-  start = λ h. keeps_fresh s (met o s event.ManualStart) f (met_moves o s event.ManualStart f refl h);
-  stop = keeps_fresh s (met o s event.ManualStop) f (met_moves o s event.ManualStop f refl (stop_fits o s));
+  start = λ h. keeps_fresh s (draft_event o s event.ManualStart) f (met_moves o s event.ManualStart f refl h);
+  stop = keeps_fresh s (draft_event o s event.ManualStop) f (met_moves o s event.ManualStop f refl (stop_fits o s));
   reset = λ h.
       let m = met_moves o s event.ManualStop f refl (stop_fits o s) in
-      keeps_fresh s (reset o s) f
-      (both_move s.session.state s.link (met o s event.ManualStop) (reset o s) m (comes_moves o NoMessage (met o s event.ManualStop) event.ManualStart m.away (λ t. refl) h));
-  second = λ h. keeps_fresh s (second o s) f (second_by o s (runs_out s.session) refl f h);
+      keeps_fresh s (draft_reset o s) f
+      (both_move s.session.state s.link (draft_event o s event.ManualStop) (draft_reset o s) m (comes_moves o NoMessage (draft_event o s event.ManualStop) event.ManualStart m.away (λ t. refl) h));
+  second = λ h. keeps_fresh s (draft_second o s) f (second_by o s (runs_out s.session) refl f h);
 }

@@ -15,18 +15,18 @@ use Rattle.bgp_codec.specs.Spelling.{written}
 use Rattle.router_model.specs.Sides.{with_update}
 use Rattle.router_side.specs.declared.block.Block.{Block}
 use Rattle.router_side.specs.declared.block.Stored.{Stored}
-use Rattle.router_side.specs.declared.history.Told.{Told}
+use Rattle.router_side.specs.declared.history.PastUpdate.{PastUpdate}
 use Rattle.router_side.specs.Histories.{Place, history, updates_read, dated, told_in, told_stored, told_by_blocks, entries_in, octets_in, places_of, spelt_by, spelt, spelt_in, stored_len, AreKept, IsStored, AreStored, AreAllStored, PutsBehind}
 use Rattle.router_side.specs.Sayings.{nobody, IsSayable}
 
 under : (b c : Bool) (t u : Update) (us : List Update) → cond b (t ∷ cond c (us ++ u ∷ []) us) (cond c (us ++ u ∷ []) us) ≡ cond c (cond b (t ∷ us) us ++ u ∷ []) (cond b (t ∷ us) us)
 under b c t u us = grind arith
 
-history_at : (ts : List Told) (t : Told) (n : ℕ) → history (ts ++ t ∷ []) n ≡ with_update (history ts) t.epoch t.update n
+history_at : (ts : List PastUpdate) (t : PastUpdate) (n : ℕ) → history (ts ++ t ∷ []) n ≡ with_update (history ts) t.epoch t.update n
 history_at [] t n = refl
 history_at (s ∷ ts) t n = rw (history_at ts t n) (under (n == s.epoch) (n == t.epoch) s.update t.update (history ts n))
 
-pub history_on : (ts : List Told) (t : Told) → history (ts ++ t ∷ []) ≡ with_update (history ts) t.epoch t.update
+pub history_on : (ts : List PastUpdate) (t : PastUpdate) → history (ts ++ t ∷ []) ≡ with_update (history ts) t.epoch t.update
 history_on ts t = fun_ext (history_at ts t)
 
 -- ---- octets behind the others
@@ -49,7 +49,7 @@ told_on width (q ∷ ps) octets new more (le, is, kept) =
     let one = λ (os : List ℕ). dated q.epoch (updates_read (reading (nobody width) os)) in
     ap (λ (os : List ℕ). one os ++ told_in width (ps ++ more) (drop q.len (octets ++ new))) front
     ∙ ap (λ (os : List ℕ). one (take q.len octets) ++ told_in width (ps ++ more) os) behind
-    ∙ ap (λ (ts : List Told). one (take q.len octets) ++ ts) (told_on width ps (drop q.len octets) new more kept)
+    ∙ ap (λ (ts : List PastUpdate). one (take q.len octets) ++ ts) (told_on width ps (drop q.len octets) new more kept)
     ∙ sym (append_assoc (one (take q.len octets)) (told_in width ps (drop q.len octets)) (told_in width more new))
 
 pub one_told : (width : Width) (p : Place) (octets : List ℕ) (u : Update) → reading (nobody width) octets ≡ Ok (UpdateMsg u) → p.len ≡ length octets → told_in width (p ∷ []) octets ≡ record { epoch = p.epoch; update = u } ∷ []
@@ -68,11 +68,11 @@ written_kept width read octets u sayable is =
 pub history_grown : (width : Width) (ps : List Place) (octets new : List ℕ) (p : Place) (u : Update) → AreKept ps octets → reading (nobody width) new ≡ Ok (UpdateMsg u) → p.len ≡ length new
     → history (told_in width (ps ++ p ∷ []) (octets ++ new)) ≡ with_update (history (told_in width ps octets)) p.epoch u
 history_grown width ps octets new p u kept read len =
-    let t : Told = record { epoch = p.epoch; update = u } in
-    ap history (told_on width ps octets new (p ∷ []) kept ∙ ap (λ (ts : List Told). told_in width ps octets ++ ts) (one_told width p new u read len)) ∙ history_on (told_in width ps octets) t
+    let t : PastUpdate = record { epoch = p.epoch; update = u } in
+    ap history (told_on width ps octets new (p ∷ []) kept ∙ ap (λ (ts : List PastUpdate). told_in width ps octets ++ ts) (one_told width p new u read len)) ∙ history_on (told_in width ps octets) t
 
 -- an UPDATE that is read at a place
-pub told_at : (width : Width) (octets : List ℕ) (t : Told) (epoch : ℕ) → t.epoch ≡ epoch → updates_read (reading (nobody width) octets) ≡ t.update ∷ [] → dated epoch (updates_read (reading (nobody width) octets)) ≡ t ∷ []
+pub told_at : (width : Width) (octets : List ℕ) (t : PastUpdate) (epoch : ℕ) → t.epoch ≡ epoch → updates_read (reading (nobody width) octets) ≡ t.update ∷ [] → dated epoch (updates_read (reading (nobody width) octets)) ≡ t ∷ []
 told_at width octets t epoch e u = ap (λ (us : List Update). dated epoch us) u ∙ ap (λ (n : ℕ). record { epoch = n; update = t.update } ∷ []) (sym e)
 
 -- ---- octets that are stored of them
@@ -182,7 +182,7 @@ told_behind width (b ∷ bs) ps octets (one, kept) =
     ap (λ (qs : List Place). told_in width qs ((spelt ++ octets_in bs) ++ octets)) (append_assoc (places_of b.places.items) (entries_in bs) ps)
     ∙ ap (λ (os : List ℕ). told_in width (places_of b.places.items ++ (entries_in bs ++ ps)) os) (append_assoc spelt (octets_in bs) octets)
     ∙ told_on width (places_of b.places.items) spelt (octets_in bs ++ octets) (entries_in bs ++ ps) (kept_of b.places.items b.octets.items one)
-    ∙ ap (λ (ts : List Told). told_stored width b.places.items b.octets.items ++ ts) (told_behind width bs ps octets kept)
+    ∙ ap (λ (ts : List PastUpdate). told_stored width b.places.items b.octets.items ++ ts) (told_behind width bs ps octets kept)
     ∙ sym (append_assoc (told_stored width b.places.items b.octets.items) (told_by_blocks width bs) (told_in width ps octets))
 
 -- a block more
@@ -197,7 +197,7 @@ octets_more (a ∷ bs) b =
     ap (λ (os : List ℕ). spelt ++ os) (octets_more bs b) ∙ sym (append_assoc spelt (octets_in bs) (spelt_in b.places.items b.octets.items))
 
 -- the histories of what is told behind
-history_behind : (ts us : List Told) (n : ℕ) → history (ts ++ us) n ≡ history ts n ++ history us n
+history_behind : (ts us : List PastUpdate) (n : ℕ) → history (ts ++ us) n ≡ history ts n ++ history us n
 history_behind [] us n = refl
 history_behind (t ∷ ts) us n = rw (history_behind ts us n) (chosen (n == t.epoch) t.update (history ts n) (history us n))
   where
@@ -205,7 +205,7 @@ history_behind (t ∷ ts) us n = rw (history_behind ts us n) (chosen (n == t.epo
     chosen true u vs ws = refl
     chosen false u vs ws = refl
 
-grown_at : (ts us more : List Told) (e : ℕ) (u : Update) (n : ℕ) → history more ≡ with_update (history us) e u → history (ts ++ more) n ≡ with_update (history (ts ++ us)) e u n
+grown_at : (ts us more : List PastUpdate) (e : ℕ) (u : Update) (n : ℕ) → history more ≡ with_update (history us) e u → history (ts ++ more) n ≡ with_update (history (ts ++ us)) e u n
 grown_at ts us more e u n grown =
     history_behind ts more n
     ∙ ap (λ (h : ℕ → List Update). history ts n ++ h n) grown
@@ -216,5 +216,5 @@ grown_at ts us more e u n grown =
     joined true vs ws = sym (append_assoc vs ws (u ∷ []))
     joined false vs ws = refl
 
-pub grown_behind : (ts us more : List Told) (e : ℕ) (u : Update) → history more ≡ with_update (history us) e u → history (ts ++ more) ≡ with_update (history (ts ++ us)) e u
+pub grown_behind : (ts us more : List PastUpdate) (e : ℕ) (u : Update) → history more ≡ with_update (history us) e u → history (ts ++ more) ≡ with_update (history (ts ++ us)) e u
 grown_behind ts us more e u grown = fun_ext (λ n. grown_at ts us more e u n grown)

@@ -8,7 +8,7 @@ use Rattle.bgp_codec.specs.declared.message.Message.{Message}
 use Rattle.bgp_codec.specs.Spelling.{written}
 use Rattle.run_model.specs.Links.{Entry}
 use Rattle.run_model.specs.Octets.{Passing, octets_of}
-use Rattle.router_side.specs.declared.say.Say.{Say}
+use Rattle.router_side.specs.declared.drafted.Say.{Say}
 use Rattle.session_fsm.specs.Table.{SessionView, kept_alive}
 use Rattle.router_model.specs.Sides.{Side, AtHand, NoMessage, HasFault, HasUpdate, Draft, tells_fault}
 use Rattle.router_side.specs.Sayings.{entries_of, all_entries, said_where, told_of, update_in, acted_where}

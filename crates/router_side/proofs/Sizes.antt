@@ -4,8 +4,8 @@ use Rattle.bgp_values.specs.declared.width.Width.{Width}
 use Rattle.bgp_codec.specs.declared.notice.Notice.{Notice}
 use Rattle.bgp_codec.specs.declared.message.Message.TheVariants.{AliveMsg, NoticeMsg}
 use Rattle.bgp_codec.specs.Spelling.{written, WrittenHasAHeader}
-use Rattle.router_side.specs.declared.say.Say.{Say}
-use Rattle.router_side.specs.declared.say.Say.TheVariants as say
+use Rattle.router_side.specs.declared.drafted.Say.{Say}
+use Rattle.router_side.specs.declared.drafted.Say.TheVariants as say
 use Rattle.router_model.specs.Sides.{notification}
 use Rattle.router_side.specs.Sayings.{size_of}
 

@@ -18,7 +18,7 @@ use Rattle.bgp_codec.specs.Updates.{octet_count, attr_octets, raw_of}
 use Rattle.bgp_codec.specs.Spelling.{header_of, framed, written}
 use Rattle.router_model.specs.State.{withdrawal, announcement, telling}
 use Rattle.router_side.specs.Histories.{spelt_by, PutsBehind}
-use Rattle.router_side.specs.Layout.{marked, field, address, withdrawal_front, told_head, told_front, announcement_front, announcement_hop}
+use Rattle.router_side.specs.Layout.{marked, field, address, withdrawal_front, announcement_head, announcement_start, announcement_front, announcement_hop}
 use Rattle.router_side.specs.Sayings.{IsSayable}
 
 pub numbers_length : (w : Width) (ns : List ℕ) → length (flat_map (asn_octets w) ns) ≡ asn_size w * length ns
@@ -99,7 +99,7 @@ module _ (w : Width) (q : PrefixView) (canonical : IsCanonical q) where
 
 -- ---- the front of an announcement
 
-pub front_parts : (count m l : ℕ) → told_front (40 + m + l) (2 + m) ++ ((2 + m) ∷ 2 ∷ count ∷ []) ≡ announcement_front count m l
+pub front_parts : (count m l : ℕ) → announcement_start (40 + m + l) (2 + m) ++ ((2 + m) ∷ 2 ∷ count ∷ []) ≡ announcement_front count m l
 front_parts count m l =
     let more : 14 + (2 + m) ≡ 16 + m = omega arith in
     ap (λ (n : ℕ). marked (field (40 + m + l) (2 ∷ 0 ∷ 0 ∷ field n (64 ∷ 1 ∷ 1 ∷ 0 ∷ 64 ∷ 2 ∷ (2 + m) ∷ 2 ∷ count ∷ [])))) more
@@ -121,12 +121,12 @@ unfolding begins_with_marker marker
 marker_in_front octets t = sym (same_text marker (take 16 octets) (sym t))
 
 -- a frame that has it is spelt without it
-pub frame_spelt : (frame front rest head : List ℕ) → IsFrame frame → IsSplitAt frame 29 front rest → head ≡ drop 16 front → head ≡ told_head (length frame) (get_or rest 0 0) → spelt_by true (length frame) rest ≡ frame
+pub frame_spelt : (frame front rest head : List ℕ) → IsFrame frame → IsSplitAt frame 29 front rest → head ≡ drop 16 front → head ≡ announcement_head (length frame) (get_or rest 0 0) → spelt_by true (length frame) rest ≡ frame
 frame_spelt frame front rest head is s h e =
     let whole : front ++ rest ≡ frame = ap (λ (f : List ℕ). f ++ rest) s.1 ∙ ap (λ (b : List ℕ). take 29 frame ++ b) s.2 ∙ take-append-drop 29 frame in
     let mark : take 16 front ≡ marker = sym (take-append-le 16 front rest (omega (arith, s.3))) ∙ ap (take 16) whole ∙ marker_in_front frame (is_marked frame is.good) in
     ap (λ (xs : List ℕ). xs ++ rest)
-    (marked_is (told_head (length frame) (get_or rest 0 0)) ∙ ap (λ (xs : List ℕ). marker ++ xs) (sym e ∙ h) ∙ ap (λ (xs : List ℕ). xs ++ drop 16 front) (sym mark) ∙ take-append-drop 16 front)
+    (marked_is (announcement_head (length frame) (get_or rest 0 0)) ∙ ap (λ (xs : List ℕ). marker ++ xs) (sym e ∙ h) ∙ ap (λ (xs : List ℕ). xs ++ drop 16 front) (sym mark) ∙ take-append-drop 16 front)
     ∙ whole
 
 -- ---- an announcement
@@ -201,7 +201,7 @@ module _ (w : Width) (id : ℕ) (q : PrefixView) (ns : List ℕ) (canonical : Is
   abbrev segment : List ℕ
   segment = (2 + size) ∷ 2 ∷ length ns ∷ []
 
-  pub announcement_put : (before old a b d e : List ℕ) → a ≡ old ++ segment → b ≡ a ++ numbers → d ≡ b ++ hop → e ≡ d ++ address q → before ≡ told_front (40 + size + octet_count q.len) (2 + size)
+  pub announcement_put : (before old a b d e : List ℕ) → a ≡ old ++ segment → b ≡ a ++ numbers → d ≡ b ++ hop → e ≡ d ++ address q → before ≡ announcement_start (40 + size + octet_count q.len) (2 + size)
       → PutsBehind before (written w (UpdateMsg (announcement id q ns))) old e
   announcement_put before old a b d e ea eb ed ee is = record {
     rest = segment ++ tail;
@@ -209,10 +209,10 @@ module _ (w : Width) (id : ℕ) (q : PrefixView) (ns : List ℕ) (canonical : Is
         ee ∙ ap (λ (x : List ℕ). x ++ address q) (three old segment numbers hop a b d ea eb ed)
         ∙ append_assoc old (segment ++ (numbers ++ hop)) (address q)
         ∙ ap (λ (x : List ℕ). old ++ x) (append_assoc segment (numbers ++ hop) (address q) ∙ ap (λ (x : List ℕ). segment ++ x) (append_assoc numbers hop (address q)));
-    front_is = is ∙ ap (λ (n : ℕ). told_front n (2 + size)) announcement_length;
+    front_is = is ∙ ap (λ (n : ℕ). announcement_start n (2 + size)) announcement_length;
     spells =
-        ap (λ (n : ℕ). told_front n (2 + size) ++ (segment ++ tail)) (sym announcement_length)
-        ∙ sym (append_assoc (told_front (40 + size + octet_count q.len) (2 + size)) segment tail)
+        ap (λ (n : ℕ). announcement_start n (2 + size) ++ (segment ++ tail)) (sym announcement_length)
+        ∙ sym (append_assoc (announcement_start (40 + size + octet_count q.len) (2 + size)) segment tail)
         ∙ ap (λ (x : List ℕ). x ++ tail) (front_parts (length ns) size (octet_count q.len))
         ∙ announcement_whole;
   }

@@ -10,9 +10,9 @@ use Rattle.bgp_codec.specs.declared.update.Update.{Update}
 use Rattle.bgp_codec.specs.declared.rule.Rule.{Rule}
 use Rattle.bgp_codec.specs.AsNumbers.{AsnFits}
 use Rattle.bgp_codec.specs.Faults.{reading}
-use Rattle.router_model.specs.Sides.{Side, is_up, front, handled}
+use Rattle.router_model.specs.Sides.{Side, is_up, front, draft_message}
 use Rattle.router_model.specs.State.{telling}
-use Rattle.router_side.specs.declared.route.TheConstants.{MOST_NUMBERS}
+use Rattle.router_side.specs.declared.told_path.TheConstants.{MOST_NUMBERS}
 use Rattle.router_side.specs.Sayings.{IsSayable}
 use Rattle.router_side.specs.SideOf.{acting}
 
@@ -28,7 +28,8 @@ pub record IsRouteInFront (width : Width) (peer : ℕ) (octets : List ℕ) (u : 
   pub reads : (rule : Rule) → rule.width ≡ width → rule.peer ≡ Some peer → front rule octets ≡ Ok (UpdateMsg u)
 
 abbrev pub UpdatesAreActedOn : Type 0
-UpdatesAreActedOn = (own_open : Message) (u : Update) (s : Side) → is_up s ≡ true → handled own_open (Ok (UpdateMsg u)) s ≡ acting s
+UpdatesAreActedOn = (own_open : Message) (u : Update) (s : Side) → is_up s ≡ true
+    → draft_message own_open (Ok (UpdateMsg u)) s ≡ acting s
 
 abbrev pub TellingsAreSayable : Type 0
 TellingsAreSayable =

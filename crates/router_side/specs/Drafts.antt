@@ -3,18 +3,18 @@ use Rattle.std.specs.Prelude.{false, [], None}
 use Rattle.session_fsm.specs.Table.{SessionView}
 use Rattle.link_epoch.specs.Ends.{LinkView}
 use Rattle.bgp_codec.specs.declared.message.Message.{Message}
-use Rattle.router_side.specs.declared.draft.Sketch.{Sketch}
-use Rattle.router_side.specs.declared.at_hand.Given.{Given}
-use Rattle.router_side.specs.declared.at_hand.Given.TheVariants as given
+use Rattle.router_side.specs.declared.draft.SideDraft.{SideDraft}
+use Rattle.router_side.specs.declared.brought.Brought.{Brought}
+use Rattle.router_side.specs.declared.brought.Brought.TheVariants as given
 use Rattle.router_model.specs.Sides.{AtHand, NoMessage, HasFault, HasUpdate, Draft}
 use Rattle.router_side.specs.Sayings.{told_of, all_entries}
 
-abbrev pub hand : Given → AtHand
+abbrev pub hand : Brought → AtHand
 hand given.Nothing = NoMessage
 hand (given.Fault notice) = HasFault (record { code = notice.code; sub = notice.sub; extra = notice.extra })
 hand (given.Update update) = HasUpdate update
 
-abbrev pub draft : Message → AtHand → Sketch → Draft
+abbrev pub draft : Message → AtHand → SideDraft → Draft
 draft own_open g a = record {
   session = a.session;
   link = a.link;
@@ -26,5 +26,14 @@ draft own_open g a = record {
 }
 
 -- a draft in which nothing is done
-abbrev pub sketch_of : SessionView → LinkView → Sketch
-sketch_of session link = record { session = session; link = link; says = []; drops = false; acts = false; left = None; overflows = false }
+abbrev pub side_draft_of : SessionView → LinkView → SideDraft
+side_draft_of session link = record {
+  session = session;
+  link = link;
+  says = [];
+  drops = false;
+  acts = false;
+  left =
+      None;
+  overflows = false;
+}

@@ -8,7 +8,7 @@ use Rattle.session_fsm.specs.declared.event.FsmEvent.TheVariants.{ManualStart, M
 use Rattle.std.specs.Prelude.{Result}
 use Rattle.bgp_codec.specs.declared.fault.Fault.{Fault}
 use Rattle.link_epoch.specs.declared.link_end.Sign.{Sign}
-use Rattle.router_model.specs.Sides.{Side, Draft, AtHand, NoMessage, met, reset, second, signed, handled, at_hand, without_front, carried, is_established, is_up}
+use Rattle.router_model.specs.Sides.{Side, Draft, AtHand, NoMessage, draft_event, draft_reset, draft_second, draft_sign, draft_message, at_hand, without_front, carried, is_established, is_up}
 
 -- the session is on its way to Established
 abbrev pub is_opening : State → Bool
@@ -50,10 +50,11 @@ pub record KeepsFresh (s : Side) (h : AtHand) (a : Draft) : Type 0 where
 
 -- a start, a stop, a reset and a second leave a side fresh, if no dial passes the greatest incarnation
 pub record EventsKeepFresh (own_open : Message) (s : Side) : Type 0 where
-  pub start : (met own_open s ManualStart).overflows ≡ false → KeepsFresh s NoMessage (met own_open s ManualStart)
-  pub stop : KeepsFresh s NoMessage (met own_open s ManualStop)
-  pub reset : (reset own_open s).overflows ≡ false → KeepsFresh s NoMessage (reset own_open s)
-  pub second : (second own_open s).overflows ≡ false → KeepsFresh s NoMessage (second own_open s)
+  pub start : (draft_event own_open s ManualStart).overflows ≡ false
+      → KeepsFresh s NoMessage (draft_event own_open s ManualStart)
+  pub stop : KeepsFresh s NoMessage (draft_event own_open s ManualStop)
+  pub reset : (draft_reset own_open s).overflows ≡ false → KeepsFresh s NoMessage (draft_reset own_open s)
+  pub second : (draft_second own_open s).overflows ≡ false → KeepsFresh s NoMessage (draft_second own_open s)
 
 abbrev pub SessionsKeepFresh : Type 0
 SessionsKeepFresh = (own_open : Message) (s : Side) → IsFresh s → EventsKeepFresh own_open s
@@ -61,7 +62,8 @@ SessionsKeepFresh = (own_open : Message) (s : Side) → IsFresh s → EventsKeep
 -- a Dial or a Shut of the peer that is taken leaves a side fresh, if no dial passes the greatest incarnation
 abbrev pub SignsKeepFresh : Type 0
 SignsKeepFresh =
-    (own_open : Message) (s : Side) (x : Sign) → IsFresh s → (signed own_open s x).overflows ≡ false → KeepsFresh s NoMessage (signed own_open s x)
+    (own_open : Message) (s : Side) (x : Sign) → IsFresh s → (draft_sign own_open s x).overflows ≡ false
+    → KeepsFresh s NoMessage (draft_sign own_open s x)
 
 -- a draft that acts on an UPDATE begins and ends in Established, in one incarnation
 abbrev pub ActsWhereUp : Side → Draft → Type 0
@@ -69,11 +71,11 @@ ActsWhereUp s a = a.acts ≡ true → (is_up s ≡ true) × (is_established a.se
 
 -- a message or a fault that is handled leaves a side fresh, and dials nothing
 pub record HandlingKeepsFresh (own_open : Message) (m : Result Message Fault) (s : Side) : Type 0 where
-  pub fits : (handled own_open m s).overflows ≡ false
-  pub fresh : IsFresh (carried (at_hand m) (without_front s) (handled own_open m s))
-  pub up : ComesUpUnsaid s (handled own_open m s)
-  pub onward : s.link.epoch ≤ (handled own_open m s).link.epoch
-  pub acts : ActsWhereUp s (handled own_open m s)
+  pub fits : (draft_message own_open m s).overflows ≡ false
+  pub fresh : IsFresh (carried (at_hand m) (without_front s) (draft_message own_open m s))
+  pub up : ComesUpUnsaid s (draft_message own_open m s)
+  pub onward : s.link.epoch ≤ (draft_message own_open m s).link.epoch
+  pub acts : ActsWhereUp s (draft_message own_open m s)
 
 abbrev pub MessagesKeepFresh : Type 0
 MessagesKeepFresh = (own_open : Message) (m : Result Message Fault) (s : Side) → IsFresh s → HandlingKeepsFresh own_open m s

@@ -10,12 +10,12 @@ use Rattle.bgp_codec.specs.Header.{IsFrame}
 use Rattle.bgp_codec.specs.Faults.{reading}
 use Rattle.router_side.specs.declared.block.Block.{Block}
 use Rattle.router_side.specs.declared.block.Stored.{Stored}
-use Rattle.router_side.specs.declared.history.Told.{Told}
-use Rattle.router_side.specs.Layout.{told_front}
+use Rattle.router_side.specs.declared.history.PastUpdate.{PastUpdate}
+use Rattle.router_side.specs.Layout.{announcement_start}
 use Rattle.router_side.specs.Sayings.{nobody}
 
 -- the UPDATEs of an incarnation
-abbrev pub history : List Told → ℕ → List Update
+abbrev pub history : List PastUpdate → ℕ → List Update
 history [] n = []
 history (t ∷ ts) n = cond (n == t.epoch) (t.update ∷ history ts n) (history ts n)
 
@@ -27,7 +27,7 @@ updates_read (Ok (NoticeMsg notice)) = []
 updates_read (Ok AliveMsg) = []
 updates_read (Err fault) = []
 
-abbrev pub dated : ℕ → List Update → List Told
+abbrev pub dated : ℕ → List Update → List PastUpdate
 dated epoch [] = []
 dated epoch (u ∷ us) = record { epoch = epoch; update = u } ∷ dated epoch us
 
@@ -37,7 +37,7 @@ pub record Place : Type 0 where
   pub len : ℕ
 
 -- each place takes the next octets
-abbrev pub told_in : Width → List Place → List ℕ → List Told
+abbrev pub told_in : Width → List Place → List ℕ → List PastUpdate
 told_in width [] octets = []
 told_in width (p ∷ ps) octets = dated p.epoch (updates_read (reading (nobody width) (take p.len octets))) ++ told_in width ps (drop p.len octets)
 
@@ -46,9 +46,9 @@ abbrev pub AreKept : List Place → List ℕ → Type 0
 AreKept [] octets = octets ≡ []
 AreKept (p ∷ ps) octets = (p.len ≤ length octets) × IsFrame (take p.len octets) × AreKept ps (drop p.len octets)
 
--- the octets of an UPDATE from its stored ones: all of its `len`, or those behind `told_front`
+-- the octets of an UPDATE from its stored ones: all of its `len`, or those behind `announcement_start`
 abbrev pub spelt_by : Bool → ℕ → List ℕ → List ℕ
-spelt_by short len octets = cond short (told_front len (get_or octets 0 0) ++ octets) octets
+spelt_by short len octets = cond short (announcement_start len (get_or octets 0 0) ++ octets) octets
 
 abbrev pub spelt : Stored → List ℕ → List ℕ
 spelt p octets = spelt_by p.short p.len octets
@@ -75,7 +75,7 @@ AreStored (p ∷ ps) octets = (stored_len p ≤ length octets) × IsStored p (ta
 pub record PutsBehind (front whole old new : List ℕ) : Type 0 where
   pub rest : List ℕ
   pub appended : new ≡ old ++ rest
-  pub front_is : front ≡ told_front (length whole) (get_or rest 0 0)
+  pub front_is : front ≡ announcement_start (length whole) (get_or rest 0 0)
   pub spells : spelt_by true (length whole) rest ≡ whole
 
 -- the places of UPDATEs that are stored
@@ -84,7 +84,7 @@ places_of [] = []
 places_of (s ∷ ss) = record { epoch = s.epoch; len = s.len } ∷ places_of ss
 
 -- the UPDATEs that were told, by stored octets
-abbrev pub told_stored : Width → List Stored → List ℕ → List Told
+abbrev pub told_stored : Width → List Stored → List ℕ → List PastUpdate
 told_stored width ss octets = told_in width (places_of ss) (spelt_in ss octets)
 
 -- the places of blocks, and what is spelt at them
@@ -97,7 +97,7 @@ octets_in [] = []
 octets_in (b ∷ bs) = spelt_in b.places.items b.octets.items ++ octets_in bs
 
 -- the UPDATEs that were told, by blocks
-abbrev pub told_by_blocks : Width → List Block → List Told
+abbrev pub told_by_blocks : Width → List Block → List PastUpdate
 told_by_blocks width [] = []
 told_by_blocks width (b ∷ bs) = told_stored width b.places.items b.octets.items ++ told_by_blocks width bs
 
@@ -113,5 +113,5 @@ pub record Past : Type 0 where
   pub places : ℕ
 
 -- the UPDATEs that were told, if AS numbers have this width
-abbrev pub told_with : Width → Past → List Told
+abbrev pub told_with : Width → Past → List PastUpdate
 told_with width p = told_in width p.entries p.octets

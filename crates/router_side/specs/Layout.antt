@@ -6,7 +6,7 @@ use Rattle.bgp_values.specs.declared.width.Width.{Width}
 use Rattle.prefix_lanes.specs.Bits.{PrefixView}
 use Rattle.bgp_codec.specs.AsNumbers.{asn_size}
 use Rattle.bgp_codec.specs.Updates.{octet_count}
-use Rattle.router_side.specs.declared.route.TheConstants.{MOST_NUMBERS}
+use Rattle.router_side.specs.declared.told_path.TheConstants.{MOST_NUMBERS}
 
 -- sixteen octets of ones, before what follows
 abbrev pub marked : List ℕ → List ℕ
@@ -21,12 +21,12 @@ abbrev pub withdrawal_front : ℕ → ℕ → List ℕ
 withdrawal_front len count = marked (field (24 + count) (2 ∷ field (1 + count) (len ∷ [])))
 
 -- an announcement of `len` octets behind its Marker, up to the length of its AS_PATH, `path`, which comes next
-abbrev pub told_head : ℕ → ℕ → List ℕ
-told_head len path = field len (2 ∷ 0 ∷ 0 ∷ field (14 + path) (64 ∷ 1 ∷ 1 ∷ 0 ∷ 64 ∷ 2 ∷ []))
+abbrev pub announcement_head : ℕ → ℕ → List ℕ
+announcement_head len path = field len (2 ∷ 0 ∷ 0 ∷ field (14 + path) (64 ∷ 1 ∷ 1 ∷ 0 ∷ 64 ∷ 2 ∷ []))
 
 -- an announcement of `len` octets from its Marker on, up to the length of its AS_PATH, `path`, which comes next
-abbrev pub told_front : ℕ → ℕ → List ℕ
-told_front len path = marked (told_head len path)
+abbrev pub announcement_start : ℕ → ℕ → List ℕ
+announcement_start len path = marked (announcement_head len path)
 
 -- an announcement up to the numbers of its path, which have `size` octets; those of its prefix are `count`
 abbrev pub announcement_front : ℕ → ℕ → ℕ → List ℕ

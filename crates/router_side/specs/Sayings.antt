@@ -8,8 +8,8 @@ use Rattle.bgp_codec.specs.declared.update.Update.{Update}
 use Rattle.bgp_codec.specs.declared.rule.Rule.{Rule}
 use Rattle.bgp_codec.specs.Spelling.{IsWritable, written}
 use Rattle.run_model.specs.Links.{Entry, Dial, Says, Shut}
-use Rattle.router_side.specs.declared.say.Say.{Say}
-use Rattle.router_side.specs.declared.say.Say.TheVariants as say
+use Rattle.router_side.specs.declared.drafted.Say.{Say}
+use Rattle.router_side.specs.declared.drafted.Say.TheVariants as say
 use Rattle.router_model.specs.Sides.{AtHand, NoMessage, HasFault, HasUpdate, with_update, notification, notification_of}
 
 -- the message that tells of what is at hand

@@ -11,7 +11,7 @@ use Rattle.session_fsm.specs.declared.config.SessionConfig.{SessionConfig}
 use Rattle.run_model.specs.Links.{Says}
 use Rattle.outbox.specs.Items.{next_item, left_behind}
 use Rattle.router_model.specs.Sides.{Side, AtHand, Draft, appended, at_hand, draft_of, front}
-use Rattle.router_side.specs.declared.draft.Sketch.{Sketch}
+use Rattle.router_side.specs.declared.draft.SideDraft.{SideDraft}
 use Rattle.router_side.specs.declared.side.SideEnd.{SideEnd}
 use Rattle.router_side.specs.Histories.{history, told_with}
 use Rattle.router_side.specs.Sayings.{size_where, all_sizes, update_in, acted_where}
@@ -40,7 +40,7 @@ abbrev pub IsInFront : Width → List ℕ → AtHand → Type 0
 IsInFront width octets g = (own : ℕ) × (peer : ℕ) × (g ≡ at_hand (front (naming width own peer) octets))
 
 -- a draft can be carried out without memory
-pub record HasRoom (own_open : Message) (told : Option Message) (a : Sketch) (s : SideEnd) : Type 0 where
+pub record HasRoom (own_open : Message) (told : Option Message) (a : SideDraft) (s : SideEnd) : Type 0 where
   pub octets : all_sizes (length (written s.width own_open)) (size_where s.width told) a.says ≤ s.outbox.room
   pub places : length a.says ≤ s.outbox.places
   pub acted : MESSAGE_LIMIT ≤ s.acted.room

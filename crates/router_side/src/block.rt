@@ -1,6 +1,6 @@
 //! UPDATEs one behind the other, in octets that tell which they are, in room that never grows. An announcement as a
-//! router tells it, where it is heard or told as a [`Route`], is stored without its first octets, which its length and
-//! the next octet tell (`told_front`). All others are stored whole.
+//! router tells it, where it is heard or told as a [`ToldPath`], is stored without its first octets, which its length
+//! and the next octet tell (`announcement_start`). All others are stored whole.
 
 ghost use Rattle.std.specs.Prelude.{ℕ, List, ◌≡◌, ◌+◌, ◌≤◌, ◌∷◌, ◌++◌, ◌↔◌, [], true, length, get_or, Ok, IfOk, OnOk, IsTrue, vec_len, vec_capacity};
 ghost use Rattle.bgp_codec.specs.declared.message.Message.TheVariants.{UpdateMsg};
@@ -14,8 +14,8 @@ ghost use Rattle.router_model.specs.Sides.{with_update};
 ghost use Rattle.router_side.specs.Sayings.{nobody, IsSayable};
 ghost use Rattle.router_side.specs.Histories.{history, spelt, spelt_by, stored_len, told_stored, updates_read, AreStored, IsStored};
 
-use crate::history::{Told, nobody};
-use crate::route::{FRONT, Route, shortened, told_front};
+use crate::history::{PastUpdate, nobody};
+use crate::told_path::{FRONT, ToldPath, announcement_start, shortened};
 use bgp_codec::laws::{header_is_its_front, written_has_a_header, written_is_read};
 use bgp_codec::{Message, decode};
 use bgp_values::Width;
@@ -27,7 +27,7 @@ use std::alloc::{AllocError, Global};
 struct Stored {
     epoch: u32,
     len: u16,
-    // Whether it is stored without the octets of `told_front`.
+    // Whether it is stored without the octets of `announcement_start`.
     short: bool,
 }
 
@@ -39,13 +39,13 @@ pub(crate) struct Block {
 }
 
 // The UPDATE that some octets spell. It is refused only where memory was: what is kept is an UPDATE.
-fn read(alloc: Global, width: Width, epoch: u32, octets: &[u8]) -> Result<Told, AllocError>
+fn read(alloc: Global, width: Width, epoch: u32, octets: &[u8]) -> Result<PastUpdate, AllocError>
     requires { IsFrame octets.now }
     ensures epoch { IfOk result (λ told. told.epoch ≡ epoch) }
     ensures update { IfOk result (λ told. updates_read (reading (nobody width) octets.now) ≡ told.update ∷ []) }
 {
     match decode(alloc, octets, &nobody(width)) {
-        Ok(Message::UpdateMsg(update)) => Ok(Told { epoch, update }),
+        Ok(Message::UpdateMsg(update)) => Ok(PastUpdate { epoch, update }),
         Ok(Message::OpenMsg(_) | Message::NoticeMsg(_) | Message::AliveMsg) | Err(_) => {
             Err(AllocError)
         }
@@ -71,13 +71,13 @@ fn first(octets: &[u8]) -> u8
     }
 }
 
-// The octets of an UPDATE of `len` octets that are stored without those of `told_front`. It is refused only where
-// memory was.
+// The octets of an UPDATE of `len` octets that are stored without those of `announcement_start`. It is refused only
+// where memory was.
 fn with_front(alloc: Global, len: u16, octets: &[u8]) -> Result<Vec<u8>, AllocError>
     ensures { IfOk result (λ whole. whole.items ≡ spelt_by true len octets.now) }
 {
     let mut whole = Vec::with_capacity(alloc, len as usize)?;
-    whole.extend_from_slice(&told_front(len, first(octets)))?;
+    whole.extend_from_slice(&announcement_start(len, first(octets)))?;
     whole.extend_from_slice(octets)?;
     Ok(whole)
 }
@@ -88,7 +88,7 @@ fn read_stored(
     width: Width,
     place: &Stored,
     octets: &[u8],
-) -> Result<Told, AllocError>
+) -> Result<PastUpdate, AllocError>
     requires { IsStored place.now octets.now }
     ensures epoch { IfOk result (λ told. told.epoch ≡ place.now.epoch) }
     ensures update { IfOk result
@@ -163,11 +163,11 @@ impl Block {
     }
 
     // Appends the UPDATEs, each with its incarnation. It is refused only where memory was.
-    pub(crate) fn put_told(
+    pub(crate) fn put_updates(
         &self,
         alloc: Global,
         width: Width,
-        all: &mut Vec<Told>,
+        all: &mut Vec<PastUpdate>,
     ) -> Result<(), AllocError>
         requires { AreStored self.now.places.items self.now.octets.items }
         ensures { OnOk result
@@ -202,11 +202,11 @@ impl Block {
 
     // Appends the UPDATE of a path that is told to what waits towards a peer, for which there is room, and it joins
     // those that are here.
-    pub(crate) fn keep_route(
+    pub(crate) fn keep_path(
         &mut self,
         width: Width,
         epoch: u32,
-        route: &Route,
+        route: &ToldPath,
         outbox: &mut Outbox,
     )
         requires kept { AreStored self.old.places.items self.old.octets.items }

@@ -3,11 +3,11 @@
 
 ghost use Rattle.std.specs.Prelude.{◌≡◌, ◌≤◌, ◌<◌, ◌+◌, ◌*◌, [], length};
 ghost use Rattle.session_fsm.specs.Table.{IsGoodEvent};
-ghost use Rattle.router_model.specs.Sides.{draft_of, does, does_all, dials, hangs_up, meets, joins, obeys, obeys_all, comes, answers, is_connecting, NoMessage};
-ghost use Rattle.router_side.specs.Drafts.{draft, hand, sketch_of};
+ghost use Rattle.router_model.specs.Sides.{draft_of, apply_once, apply_all_once, dials, hangs_up, react_once, is_joined_by, apply, apply_all, react, react_to_sign, is_connecting, NoMessage};
+ghost use Rattle.router_side.specs.Drafts.{draft, hand, side_draft_of};
 
-use crate::at_hand::Given;
-use crate::say::{Say, Says};
+use crate::brought::Brought;
+use crate::drafted::{Say, Says};
 use bgp_codec::Message;
 use link_epoch::{Heard, LinkEnd};
 use session_fsm::{Action, FsmEvent, Session, State};
@@ -15,7 +15,7 @@ use session_fsm::{Action, FsmEvent, Session, State};
 /// A draft: the session and the link end as they are to be, and what has to be done besides. Only
 /// contracts read the router's OPEN and what is at hand, since what is said is kept in short.
 #[derive(Drop)]
-pub struct Sketch {
+pub struct SideDraft {
     /// The session as it is to be.
     pub session: Session,
     /// The link end as it is to be.
@@ -32,12 +32,12 @@ pub struct Sketch {
     pub overflows: bool,
 }
 
-impl Sketch {
+impl SideDraft {
     /// A draft in which nothing is done.
-    pub fn new(session: Session, link: LinkEnd) -> Sketch
-        ensures { result ≡ sketch_of session link }
+    pub fn new(session: Session, link: LinkEnd) -> SideDraft
+        ensures { result ≡ side_draft_of session link }
     {
-        Sketch {
+        SideDraft {
             session,
             link,
             says: Says::new(),
@@ -49,7 +49,7 @@ impl Sketch {
     }
 
     #[tactic(auto, using(crate::proofs::Said::said_on))]
-    fn dial(&mut self, own_open: &Message, given: &Given)
+    fn dial(&mut self, own_open: &Message, given: &Brought)
         requires { length self.old.says < 40 }
         ensures after { draft own_open.now (hand given.now) self.new
             ≡ dials (draft own_open.now (hand given.now) self.old) }
@@ -62,7 +62,7 @@ impl Sketch {
     }
 
     #[tactic(auto, using(crate::proofs::Said::said_on))]
-    fn hang_up(&mut self, own_open: &Message, given: &Given)
+    fn hang_up(&mut self, own_open: &Message, given: &Brought)
         requires { length self.old.says < 40 }
         ensures after { draft own_open.now (hand given.now) self.new
             ≡ hangs_up (draft own_open.now (hand given.now) self.old) }
@@ -75,10 +75,10 @@ impl Sketch {
     }
 
     #[tactic(auto, using(crate::proofs::Said::said_on))]
-    fn does(&mut self, own_open: &Message, given: &Given, action: Action)
+    fn apply_once(&mut self, own_open: &Message, given: &Brought, action: Action)
         requires { length self.old.says < 40 }
         ensures after { draft own_open.now (hand given.now) self.new
-            ≡ does own_open.now (hand given.now) (draft own_open.now (hand given.now) self.old) action }
+            ≡ apply_once own_open.now (hand given.now) (draft own_open.now (hand given.now) self.old) action }
         ensures grows { length self.new.says ≤ length self.old.says + 1 }
     {
         let epoch = self.link.epoch();
@@ -95,34 +95,34 @@ impl Sketch {
         }
     }
 
-    fn does_all(&mut self, own_open: &Message, given: &Given, actions: &[Action])
+    fn apply_all_once(&mut self, own_open: &Message, given: &Brought, actions: &[Action])
         requires { length self.old.says + length actions.now ≤ 40 }
         ensures after { draft own_open.now (hand given.now) self.new
-            ≡ does_all own_open.now (hand given.now) (draft own_open.now (hand given.now) self.old) actions.now }
+            ≡ apply_all_once own_open.now (hand given.now) (draft own_open.now (hand given.now) self.old) actions.now }
         ensures grows { length self.new.says ≤ length self.old.says + length actions.now }
     {
         for action in actions {
-            self.does(own_open, given, *action);
+            self.apply_once(own_open, given, *action);
         }
     }
 
-    #[tactic(auto, unfolding(router_model::specs::Sides::meets))]
-    fn meets(&mut self, own_open: &Message, given: &Given, event: FsmEvent)
+    #[tactic(auto, unfolding(router_model::specs::Sides::react_once))]
+    fn react_once(&mut self, own_open: &Message, given: &Brought, event: FsmEvent)
         requires good { IsGoodEvent event }
         requires room { length self.old.says ≤ 36 }
         ensures after { draft own_open.now (hand given.now) self.new
-            ≡ meets own_open.now (hand given.now) (draft own_open.now (hand given.now) self.old) event }
+            ≡ react_once own_open.now (hand given.now) (draft own_open.now (hand given.now) self.old) event }
         ensures grows { length self.new.says ≤ length self.old.says + 4 }
     {
         let actions = self.session.on(event);
-        self.does_all(own_open, given, actions.as_slice());
+        self.apply_all_once(own_open, given, actions.as_slice());
     }
 
-    fn joins(&self, action: Action) -> bool
-        ensures { result ≡ joins (draft_of self.now.session self.now.link) action }
+    fn is_joined_by(&self, action: Action) -> bool
+        ensures { result ≡ is_joined_by (draft_of self.now.session self.now.link) action }
     {
         match action {
-            Action::Dial => self.link.is_awaited(),
+            Action::Dial => self.link.is_joinable(),
             Action::SendOpen
             | Action::SendAlive
             | Action::SendNotice(_)
@@ -134,63 +134,63 @@ impl Sketch {
         }
     }
 
-    #[tactic(auto, unfolding(router_model::specs::Sides::obeys))]
-    fn obeys(&mut self, own_open: &Message, given: &Given, action: Action)
+    #[tactic(auto, unfolding(router_model::specs::Sides::apply))]
+    fn apply(&mut self, own_open: &Message, given: &Brought, action: Action)
         requires { length self.old.says ≤ 35 }
         ensures after { draft own_open.now (hand given.now) self.new
-            ≡ obeys own_open.now (hand given.now) (draft own_open.now (hand given.now) self.old) action }
+            ≡ apply own_open.now (hand given.now) (draft own_open.now (hand given.now) self.old) action }
         ensures grows { length self.new.says ≤ length self.old.says + 5 }
     {
-        let joins = self.joins(action);
-        self.does(own_open, given, action);
+        let joins = self.is_joined_by(action);
+        self.apply_once(own_open, given, action);
         if joins {
-            self.meets(own_open, given, FsmEvent::TcpCrAcked);
+            self.react_once(own_open, given, FsmEvent::TcpCrAcked);
         }
     }
 
-    fn obeys_all(&mut self, own_open: &Message, given: &Given, actions: &[Action])
+    fn apply_all(&mut self, own_open: &Message, given: &Brought, actions: &[Action])
         requires { length self.old.says + 5 * length actions.now ≤ 40 }
         ensures after { draft own_open.now (hand given.now) self.new
-            ≡ obeys_all own_open.now (hand given.now) (draft own_open.now (hand given.now) self.old) actions.now }
+            ≡ apply_all own_open.now (hand given.now) (draft own_open.now (hand given.now) self.old) actions.now }
         ensures grows { length self.new.says ≤ length self.old.says + 5 * length actions.now }
     {
         for action in actions {
-            self.obeys(own_open, given, *action);
+            self.apply(own_open, given, *action);
         }
     }
 
     /// An event comes to the session, and its actions are obeyed in their order.
-    #[tactic(auto, unfolding(router_model::specs::Sides::comes))]
-    pub fn comes(&mut self, own_open: &Message, given: &Given, event: FsmEvent)
+    #[tactic(auto, unfolding(router_model::specs::Sides::react))]
+    pub fn react(&mut self, own_open: &Message, given: &Brought, event: FsmEvent)
         requires good { IsGoodEvent event }
         requires room { length self.old.says ≤ 20 }
         ensures after { draft own_open.now (hand given.now) self.new
-            ≡ comes own_open.now (hand given.now) (draft own_open.now (hand given.now) self.old) event }
+            ≡ react own_open.now (hand given.now) (draft own_open.now (hand given.now) self.old) event }
         ensures grows { length self.new.says ≤ length self.old.says + 20 }
     {
         let actions = self.session.on(event);
-        self.obeys_all(own_open, given, actions.as_slice());
+        self.apply_all(own_open, given, actions.as_slice());
     }
 
     /// Does what a sign of the peer means to the session.
-    #[tactic(auto, unfolding(router_model::specs::Sides::answers))]
-    pub fn answers(&mut self, own_open: &Message, heard: Heard)
+    #[tactic(auto, unfolding(router_model::specs::Sides::react_to_sign))]
+    pub fn react_to_sign(&mut self, own_open: &Message, heard: Heard)
         requires { self.old.says ≡ [] }
         ensures after { draft own_open.now NoMessage self.new
-            ≡ answers own_open.now (draft own_open.now NoMessage self.old) heard }
+            ≡ react_to_sign own_open.now (draft own_open.now NoMessage self.old) heard }
         ensures few { length self.new.says ≤ 40 }
     {
-        let nothing = Given::Nothing;
+        let nothing = Brought::Nothing;
         match heard {
             Heard::Quiet => {}
-            Heard::Joined => self.comes(own_open, &nothing, FsmEvent::TcpCrAcked),
+            Heard::Joined => self.react(own_open, &nothing, FsmEvent::TcpCrAcked),
             Heard::Offered(_) => {
                 if is_connecting(self.session.state()) {
                     self.dial(own_open, &nothing);
-                    self.comes(own_open, &nothing, FsmEvent::TcpConnectionConfirmed);
+                    self.react(own_open, &nothing, FsmEvent::TcpConnectionConfirmed);
                 }
             }
-            Heard::Closed => self.comes(own_open, &nothing, FsmEvent::TcpConnectionFails),
+            Heard::Closed => self.react(own_open, &nothing, FsmEvent::TcpConnectionFails),
         }
     }
 }

@@ -13,7 +13,7 @@ ghost use Rattle.router_side.specs.Sayings.{nobody, IsSayable};
 ghost use Rattle.router_side.specs.Histories.{history, told_with};
 
 use crate::block::Block;
-use crate::route::Route;
+use crate::told_path::ToldPath;
 use bgp_codec::{Rule, Update};
 use bgp_values::Width;
 use outbox::Outbox;
@@ -31,7 +31,7 @@ const OCTETS_A_PLACE: usize = 20;
 
 /// An UPDATE that was acted on or sent, with its incarnation.
 #[derive(Debug, Drop)]
-pub struct Told {
+pub struct PastUpdate {
     /// The incarnation of the link.
     pub epoch: u32,
     /// The UPDATE.
@@ -87,14 +87,14 @@ impl History {
     }
 
     /// The UPDATEs in their order, each with its incarnation. It is refused only where memory was.
-    pub fn told(&self, alloc: Global, width: Width) -> Result<Vec<Told>, AllocError>
+    pub fn updates(&self, alloc: Global, width: Width) -> Result<Vec<PastUpdate>, AllocError>
         ensures { IfOk result (λ told. told.items ≡ told_with width self.now) }
     {
         let mut all = Vec::new(alloc);
         for block in self.full.as_slice() {
-            block.put_told(alloc, width, &mut all)?;
+            block.put_updates(alloc, width, &mut all)?;
         }
-        self.last.put_told(alloc, width, &mut all)?;
+        self.last.put_updates(alloc, width, &mut all)?;
         Ok(all)
     }
 
@@ -153,11 +153,11 @@ impl History {
 
     // Appends the UPDATE of a path that is told to what waits towards a peer, for which there is room, and it joins
     // those that are here.
-    pub(crate) fn keep_route(
+    pub(crate) fn keep_path(
         &mut self,
         width: Width,
         epoch: u32,
-        route: &Route,
+        route: &ToldPath,
         outbox: &mut Outbox,
     )
         requires sayable { IsSayable width (UpdateMsg route.now) }
@@ -170,6 +170,6 @@ impl History {
         ensures passing { outbox.new.passing
             ≡ outbox.old.passing ++ octets_of epoch (written width (UpdateMsg route.now)) }
     {
-        self.last.keep_route(width, epoch, route, outbox);
+        self.last.keep_path(width, epoch, route, outbox);
     }
 }

@@ -25,7 +25,7 @@ pub fn updates_are_acted_on()
 {}
 
 /// An UPDATE that tells a path of at most [`crate::MOST_NUMBERS`] numbers, which fit the width, can be said.
-pub fn tellings_are_sayable()
+pub fn told_updates_are_sayable()
     ensures { TellingsAreSayable }
 {
     written_has_a_header();

@@ -11,8 +11,8 @@ ghost use Rattle.router_model.specs.Sides.{front, event_of, at_hand};
 ghost use Rattle.router_side.specs.Sayings.{told_of, IsSayableWhere};
 ghost use Rattle.router_side.specs.Drafts.{hand};
 
-use crate::at_hand::Given;
-use crate::route::Route;
+use crate::brought::Brought;
+use crate::told_path::ToldPath;
 use bgp_codec::laws::{
     fault_fits_a_message, header_fault_is_short, header_is_its_front, open_has_a_hold_time,
     spelt_is_writable, written_has_a_header,
@@ -61,7 +61,7 @@ pub fn read_frame(
     ensures writable { IfOk result (λ read. IfOk read (IsWritable rule.now)) }
 {
     if let Some(peer) = rule.peer {
-        if let Some(route) = Route::read(alloc, rule.width, peer, frame)? {
+        if let Some(route) = ToldPath::read(alloc, rule.width, peer, frame)? {
             return Ok(Ok(Message::UpdateMsg(route.into_update(alloc))));
         }
     }
@@ -114,15 +114,15 @@ fn notice_event(notice: &Notice) -> FsmEvent
 }
 
 /// The event that a message or fault brings, and what is at hand with it. An UPDATE is moved.
-pub fn opened(read: Result<Message, Fault>) -> (FsmEvent, Given)
+pub fn opened(read: Result<Message, Fault>) -> (FsmEvent, Brought)
     ensures event { result.0 ≡ event_of read }
     ensures given { hand result.1 ≡ at_hand read }
 {
     match read {
-        Ok(Message::OpenMsg(open)) => (FsmEvent::BgpOpen { hold: open.hold }, Given::Nothing),
-        Ok(Message::UpdateMsg(update)) => (FsmEvent::UpdateMsg, Given::Update(update)),
-        Ok(Message::NoticeMsg(notice)) => (notice_event(&notice), Given::Nothing),
-        Ok(Message::AliveMsg) => (FsmEvent::KeepAliveMsg, Given::Nothing),
+        Ok(Message::OpenMsg(open)) => (FsmEvent::BgpOpen { hold: open.hold }, Brought::Nothing),
+        Ok(Message::UpdateMsg(update)) => (FsmEvent::UpdateMsg, Brought::Update(update)),
+        Ok(Message::NoticeMsg(notice)) => (notice_event(&notice), Brought::Nothing),
+        Ok(Message::AliveMsg) => (FsmEvent::KeepAliveMsg, Brought::Nothing),
         Err(fault) => {
             let event = fault_event(&fault);
             let notice = Notice {
@@ -130,7 +130,7 @@ pub fn opened(read: Result<Message, Fault>) -> (FsmEvent, Given)
                 sub: fault.sub,
                 extra: fault.extra,
             };
-            (event, Given::Fault(notice))
+            (event, Brought::Fault(notice))
         }
     }
 }

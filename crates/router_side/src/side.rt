@@ -14,7 +14,7 @@ mod hearing;
 mod putting;
 mod telling;
 
-use crate::history::{History, Told};
+use crate::history::{History, PastUpdate};
 use bgp_framing::Framer;
 use bgp_values::Width;
 use link_epoch::{LinkEnd, Phase};
@@ -99,16 +99,16 @@ impl SideEnd {
 
     /// The UPDATEs that were acted on, in their order, each with its incarnation. It is refused only for want of
     /// memory.
-    pub fn acted(&self, alloc: Global) -> Result<Vec<Told>, AllocError>
+    pub fn acted(&self, alloc: Global) -> Result<Vec<PastUpdate>, AllocError>
         ensures { IfOk result (λ told. history told.items ≡ (side self.now).acted) }
     {
-        self.acted.told(alloc, self.width)
+        self.acted.updates(alloc, self.width)
     }
 
     /// The UPDATEs that were sent, in their order, each with its incarnation. It is refused only for want of memory.
-    pub fn sent(&self, alloc: Global) -> Result<Vec<Told>, AllocError>
+    pub fn sent(&self, alloc: Global) -> Result<Vec<PastUpdate>, AllocError>
         ensures { IfOk result (λ told. history told.items ≡ (side self.now).sent) }
     {
-        self.sent.told(alloc, self.width)
+        self.sent.updates(alloc, self.width)
     }
 }

@@ -6,7 +6,7 @@ use Rattle.std.proofs.lemmas.Bool.{and_parts, eq-eqb, cases_lt}
 use Rattle.std.proofs.lemmas.List.{append-nil, drop_more}
 use Rattle.prefix_lanes.specs.Bits.{PrefixView}
 use Rattle.ranked_policy.specs.Plans.{Plan, IsNetwork, IsOrigin, numbers}
-use Rattle.ranked_policy.specs.declared.network.Router.{Router}
+use Rattle.ranked_policy.specs.declared.network.NetRouter.{NetRouter}
 use Rattle.ranked_policy.specs.declared.network.Origin.{Origin}
 use Rattle.stable_paths.specs.Stable.{IsStable}
 use Rattle.run_model.specs.Offers.{HasOutcome, Outcome, Waiting, Abandoned, Moving, Settled, OutcomeIsOne}
@@ -50,7 +50,7 @@ any_behind : (b c : Bool) → c ≡ true → (b || c) ≡ true
 any_behind true c h = refl
 any_behind false c h = h
 
-routes_are : (origins : List Origin) (offers : List MadeOffer) (rs : List Router)
+routes_are : (origins : List Origin) (offers : List MadeOffer) (rs : List NetRouter)
     → ((u : ℕ) → list_any (λ n. u == n) (numbers rs) ≡ true → recorded offers u ≡ Some (parts_in offers u))
     → flat_map (λ r. part_text origins r.asn (recorded offers r.asn)) rs ≡ flat_map (λ r. router_text (parts_in offers r.asn).kept r.asn origins) rs
 routes_are origins offers [] all = refl

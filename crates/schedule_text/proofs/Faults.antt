@@ -2,7 +2,7 @@
 use Rattle.std.proofs.Common.{◌≡◌, ℕ, Bool, true, false, cond, List, [], ◌∷◌, Option, None, Some, Result, Ok, Err, ap, sym, not, ◌≢◌, suc, ◌++◌, refl, subst, arith}
 use Rattle.prefix_lanes.specs.Bits.{PrefixView}
 use Rattle.ranked_policy.specs.Plans.{Plan}
-use Rattle.ranked_policy.specs.declared.network.Router.{Router}
+use Rattle.ranked_policy.specs.declared.network.NetRouter.{NetRouter}
 use Rattle.ranked_policy.specs.declared.network.Origin.{Origin}
 use Rattle.net_text.specs.declared.code.Code.{Code}
 use Rattle.net_text.specs.declared.code.Code.TheVariants as codes
@@ -55,7 +55,7 @@ with_good r f h = onward r (λ x. Ok (f x)) h (λ x. good (f x))
 number : (test : ℕ → Bool) (word : Text) → NoMemory (number_word test word)
 number test word = either _ _ _ unreadable (either _ _ _ out_of_limit (good _))
 
-router : (width : Width) (routers : List Router) (word : Text) → NoMemory (router_word width routers word)
+router : (width : Width) (routers : List NetRouter) (word : Text) → NoMemory (router_word width routers word)
 router width routers word =
     onward (asn_word width word) (λ u. cond (not (is_router routers u)) (Err codes.UnknownRouter) (Ok u)) (number (is_asn width) word) (λ u. either _ _ _ unknown (good u))
 

@@ -12,7 +12,7 @@ use Rattle.std.proofs.lemmas.Str.Parse.{IsDigitsTest, IsNumeralModel, numerals_b
 use Rattle.bgp_values.specs.declared.width.Width.{Width}
 use Rattle.bgp_values.specs.declared.width.Width.TheVariants.{Two, Four}
 use Rattle.bgp_values.specs.Ranges.{is_asn, greatest_asn}
-use Rattle.ranked_policy.specs.declared.network.Router.{Router}
+use Rattle.ranked_policy.specs.declared.network.NetRouter.{NetRouter}
 use Rattle.ranked_policy.specs.Plans.{Plan}
 use Rattle.world_core.specs.declared.schedule.Event.{Event}
 use Rattle.world_core.specs.declared.schedule.Order.{Order}
@@ -200,7 +200,7 @@ pub number_from : (test : ℕ → Bool) (b : Bool) (v u : ℕ) → (if not b the
 number_from test true v u h = test_in test (test v) v u refl h
 number_from test false v u h = absurd cc
 
-known_in : (routers : List Router) (c : Bool) (v u : ℕ) → is_router routers v ≡ c → (if not c then Err UnknownRouter else Ok v) ≡ Ok u → (v ≡ u) × (is_router routers u ≡ true)
+known_in : (routers : List NetRouter) (c : Bool) (v u : ℕ) → is_router routers v ≡ c → (if not c then Err UnknownRouter else Ok v) ≡ Ok u → (v ≡ u) × (is_router routers u ≡ true)
 known_in routers true v u is h =
     let same : v ≡ u = cc in
     (same, subst (λ (m : ℕ). is_router routers m ≡ true) same is)

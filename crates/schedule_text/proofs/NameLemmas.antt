@@ -8,7 +8,7 @@ use Rattle.bgp_values.specs.declared.width.Width.{Width}
 use Rattle.bgp_values.specs.Ranges.{IsAsn, is_asn, greatest_asn}
 use Rattle.prefix_lanes.specs.Bits.{PrefixView, IsCanonical, is_prefix}
 use Rattle.ranked_policy.specs.declared.network.Origin.{Origin}
-use Rattle.ranked_policy.specs.declared.network.Router.{Router}
+use Rattle.ranked_policy.specs.declared.network.NetRouter.{NetRouter}
 use Rattle.ranked_policy.specs.Plans.{IsNetwork, numbers}
 use Rattle.router_model.specs.Settings.{Setting}
 use Rattle.router_model.specs.Settings as settings
@@ -19,7 +19,7 @@ known_at : (b : Bool) (u n : ℕ) (more rest : Bool) → (u == n) ≡ b → (b |
 known_at true u n more rest is h go = ap (λ (c : Bool). c || rest) (eq-eqb n u (sym (eqb-true u n is)))
 known_at false u n more rest is h go = or_right (n == u) rest (go h)
 
-known_by : (routers : List Router) (u : ℕ) → list_any (λ n. u == n) (numbers routers) ≡ true → is_router routers u ≡ true
+known_by : (routers : List NetRouter) (u : ℕ) → list_any (λ n. u == n) (numbers routers) ≡ true → is_router routers u ≡ true
 known_by [] u h = absurd cc
 known_by (r ∷ rs) u h = known_at (u == r.asn) u r.asn (list_any (λ n. u == n) (numbers rs)) (is_router rs u) refl h (known_by rs u)
 

@@ -6,7 +6,7 @@ ghost use Rattle.snap_marker.specs.Parts.{cause_of};
 ghost use Rattle.snap_collector.specs.Collecting.{why_of, outcome_of};
 ghost use Rattle.schedule_text.specs.Reports.{why_text, cause_text, outcome_text, snapshot_text, snapshot_line, route_line, now_line, cut_line, cut_none_line, stop_line, router_code, fault_code};
 
-use net_text::{Tail, path_line, refused_line};
+use net_text::{TextTail, path_line, refused_line};
 use prefix_lanes::Prefix;
 use ranked_policy::Asn;
 use router_model::RouterError;
@@ -25,7 +25,7 @@ pub struct RefusedOrder {
 }
 
 // Writes why a snapshot is moving.
-fn put_why(out: &mut Tail, why: Why) -> Result<(), AllocError>
+fn put_why(out: &mut TextTail, why: Why) -> Result<(), AllocError>
     ensures text { OnOk result (out.new.text ≡ out.old.text ++ why_text (why_of why)) }
     ensures front { out.new.front ≡ out.old.front }
 {
@@ -54,7 +54,7 @@ fn cause_text(cause: Cause) -> &'static [u8]
 }
 
 // Writes how a snapshot was abandoned.
-fn put_lost(out: &mut Tail, lost: &Lost) -> Result<(), AllocError>
+fn put_lost(out: &mut TextTail, lost: &Lost) -> Result<(), AllocError>
     ensures text { OnOk result (out.new.text ≡ out.old.text ++ outcome_text (outcome_of (Outcome.Abandoned lost.now))) }
     ensures front { out.new.front ≡ out.old.front }
 {
@@ -67,7 +67,7 @@ fn put_lost(out: &mut Tail, lost: &Lost) -> Result<(), AllocError>
 }
 
 // Writes how a snapshot came out.
-fn put_outcome(out: &mut Tail, outcome: &Outcome) -> Result<(), AllocError>
+fn put_outcome(out: &mut TextTail, outcome: &Outcome) -> Result<(), AllocError>
     ensures text { OnOk result (out.new.text ≡ out.old.text ++ outcome_text (outcome_of outcome.now)) }
     ensures front { out.new.front ≡ out.old.front }
 {
@@ -85,7 +85,7 @@ fn put_outcome(out: &mut Tail, outcome: &Outcome) -> Result<(), AllocError>
 }
 
 #[tactic(auto, unfolding(crate::specs::Reports::snapshot_text))]
-fn put_snapshot(out: &mut Tail, number: u32, outcome: &Outcome) -> Result<(), AllocError>
+fn put_snapshot(out: &mut TextTail, number: u32, outcome: &Outcome) -> Result<(), AllocError>
     ensures text { OnOk result (out.new.text ≡ out.old.text ++ snapshot_text number (outcome_of outcome.now)) }
     ensures front { out.new.front ≡ out.old.front }
 {
@@ -97,7 +97,7 @@ fn put_snapshot(out: &mut Tail, number: u32, outcome: &Outcome) -> Result<(), Al
 }
 
 #[tactic(auto, unfolding(crate::specs::Reports::cut_line))]
-fn put_cut(out: &mut Tail, number: u32, recorded: usize, all: usize) -> Result<(), AllocError>
+fn put_cut(out: &mut TextTail, number: u32, recorded: usize, all: usize) -> Result<(), AllocError>
     ensures text { OnOk result (out.new.text ≡ out.old.text ++ cut_line number recorded all) }
     ensures front { out.new.front ≡ out.old.front }
 {
@@ -111,7 +111,7 @@ fn put_cut(out: &mut Tail, number: u32, recorded: usize, all: usize) -> Result<(
 }
 
 #[tactic(auto, unfolding(crate::specs::Reports::cut_none_line))]
-fn put_cut_none(out: &mut Tail, number: u32) -> Result<(), AllocError>
+fn put_cut_none(out: &mut TextTail, number: u32) -> Result<(), AllocError>
     ensures text { OnOk result (out.new.text ≡ out.old.text ++ cut_none_line number) }
     ensures front { out.new.front ≡ out.old.front }
 {
@@ -131,7 +131,7 @@ pub fn snapshot_line(number: u32, outcome: &Outcome, out: &mut Vec<u8>) -> Resul
     if *outcome == Outcome::Waiting {
         return Ok(());
     }
-    let mut tail = Tail::behind(out);
+    let mut tail = TextTail::behind(out);
     let result = put_snapshot(&mut tail, number, outcome);
     *out = tail.finish(result.is_ok());
     result
@@ -163,7 +163,7 @@ pub fn cut_line(
     ensures ok { OnOk result (out.new.items ≡ out.old.items ++ cut_line number recorded all) }
     ensures err { OnErr result (out.new.items ≡ out.old.items) }
 {
-    let mut tail = Tail::behind(out);
+    let mut tail = TextTail::behind(out);
     let result = put_cut(&mut tail, number, recorded, all);
     *out = tail.finish(result.is_ok());
     result
@@ -175,7 +175,7 @@ pub fn cut_none_line(number: u32, out: &mut Vec<u8>) -> Result<(), AllocError>
     ensures ok { OnOk result (out.new.items ≡ out.old.items ++ cut_none_line number) }
     ensures err { OnErr result (out.new.items ≡ out.old.items) }
 {
-    let mut tail = Tail::behind(out);
+    let mut tail = TextTail::behind(out);
     let result = put_cut_none(&mut tail, number);
     *out = tail.finish(result.is_ok());
     result

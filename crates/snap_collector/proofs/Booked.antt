@@ -8,7 +8,7 @@ use Rattle.snap_marker.specs.declared.part.Part.{Part}
 use Rattle.snap_marker.specs.declared.part.Offer.{Offer}
 use Rattle.snap_marker.specs.declared.part.Offer.TheVariants as offer
 use Rattle.snap_marker.specs.Recordings.{MadeOffer}
-use Rattle.snap_collector.specs.Booking.{missing, awaited_of, times, IsBooked}
+use Rattle.snap_collector.specs.Booking.{missing, missing_parts, times, IsBooked}
 use Rattle.snap_collector.specs.declared.members.Member.{Member as MemberOf}
 use Rattle.snap_collector.specs.Collecting.{made_by, made_in, member_of}
 use Rattle.snap_collector.specs.Collector.{CollectorView, AreKept, kept_behind, kept_of, offers_at}
@@ -29,7 +29,7 @@ or_by : (b all : Bool) (n : ℕ) → all ≡ (n == 0) → (b || all) ≡ (cond b
 or_by true all n h = refl
 or_by false all n h = h
 
-pub decides_by : (members : List Member) (ms : List MadeOffer) → decides members ms ≡ (awaited_of members ms == 0)
+pub decides_by : (members : List Member) (ms : List MadeOffer) → decides members ms ≡ (missing_parts members ms == 0)
 decides_by members ms = or_by (any_lost ms) (all_parts members ms) (missing members ms) (all_where_none members ms)
 
 -- ---- before any offer
@@ -76,16 +76,16 @@ fewer_missing (m ∷ rest) ms p h =
 none_lost : (ms : List MadeOffer) (p : Part) → any_lost ms ≡ false → any_lost (ms ++ made_by (offer.Part p) ∷ []) ≡ false
 none_lost ms p h = list_any-append (λ m. is_lost m.offer) ms (made_by (offer.Part p) ∷ []) ∙ ap (λ b. b || false) h
 
-open_is : (members : List Member) (ms : List MadeOffer) → any_lost ms ≡ false → awaited_of members ms ≡ missing members ms
+open_is : (members : List Member) (ms : List MadeOffer) → any_lost ms ≡ false → missing_parts members ms ≡ missing members ms
 open_is members ms h = ap (λ b. cond b 0 (missing members ms)) h
 
 pub with_same : (members : List Member) (ms : List MadeOffer) (p : Part) (awaited : ℕ) → any_lost ms ≡ false → has_part ms p.router (λ part. true) ≡ true → awaited ≡ missing members ms
-    → awaited ≡ awaited_of members (ms ++ made_by (offer.Part p) ∷ [])
+    → awaited ≡ missing_parts members (ms ++ made_by (offer.Part p) ∷ [])
 with_same members ms p awaited unlost has is =
     is ∙ sym (same_missing members ms p has) ∙ sym (open_is members (ms ++ made_by (offer.Part p) ∷ []) (none_lost ms p unlost))
 
 pub with_fewer : (members : List Member) (ms : List MadeOffer) (p : Part) (awaited n left : ℕ) → any_lost ms ≡ false → has_part ms p.router (λ part. true) ≡ false → awaited ≡ missing members ms
-    → n ≡ times members p.router → left + n ≡ awaited → left ≡ awaited_of members (ms ++ made_by (offer.Part p) ∷ [])
+    → n ≡ times members p.router → left + n ≡ awaited → left ≡ missing_parts members (ms ++ made_by (offer.Part p) ∷ [])
 with_fewer members ms p awaited n left unlost has is many sub =
     let fewer = fewer_missing members ms p has in
     let now : left ≡ missing members (ms ++ made_by (offer.Part p) ∷ []) = omega (arith, fewer, is, many, sub) in
@@ -128,7 +128,7 @@ module _ (members : List Member) where
   zero_test : (n : ℕ) → n ≢ 0 → (n == 0) ≡ false
   zero_test n h = ne_eqb n 0 h
 
-  pub nothing_lost : (ms : List MadeOffer) (awaited : ℕ) → awaited ≢ 0 → awaited ≡ awaited_of members ms → any_lost ms ≡ false
+  pub nothing_lost : (ms : List MadeOffer) (awaited : ℕ) → awaited ≢ 0 → awaited ≡ missing_parts members ms → any_lost ms ≡ false
   nothing_lost ms awaited some is = by (any_lost ms) some is
     where
       by : (b : Bool) → awaited ≢ 0 → awaited ≡ cond b 0 (missing members ms) → b ≡ false
@@ -149,10 +149,10 @@ module _ (members : List Member) where
         exact =
             ap made_in (take-append-le kept os (o ∷ []) b.inside) ∙ b.exact ∙ sym (late [] (made_in os) (made_by o) none) ∙ ap (kept_of members) (sym (made_more os o));
         waiting = λ some. absurd (some refl);
-        awaits = sym (eqb-true (awaited_of members (made_in (os ++ o ∷ []))) 0 (sym (decides_by members (made_in (os ++ o ∷ []))) ∙ ap (decides members) (made_more os o) ∙ more));
+        awaits = sym (eqb-true (missing_parts members (made_in (os ++ o ∷ []))) 0 (sym (decides_by members (made_in (os ++ o ∷ []))) ∙ ap (decides members) (made_more os o) ∙ more));
       }
 
-  pub booked_more : (os : List Offer) (o : Offer) (kept awaited next : ℕ) → IsBooked members os kept awaited → awaited ≢ 0 → next ≡ awaited_of members (made_in os ++ made_by o ∷ [])
+  pub booked_more : (os : List Offer) (o : Offer) (kept awaited next : ℕ) → IsBooked members os kept awaited → awaited ≢ 0 → next ≡ missing_parts members (made_in os ++ made_by o ∷ [])
       → IsBooked members (os ++ o ∷ []) (length (os ++ o ∷ [])) next
   booked_more os o kept awaited next b some is =
       let none : decides members (made_in os) ≡ false = decides_by members (made_in os) ∙ ap (λ n. n == 0) (sym b.awaits) ∙ zero_test awaited some in
@@ -161,7 +161,7 @@ module _ (members : List Member) where
         exact =
             ap made_in (take-length (os ++ o ∷ [])) ∙ made_more os o ∙ sym (whole [] (made_in os) (made_by o) none) ∙ ap (kept_of members) (sym (made_more os o));
         waiting = λ n. refl;
-        awaits = is ∙ ap (awaited_of members) (sym (made_more os o));
+        awaits = is ∙ ap (missing_parts members) (sym (made_more os o));
       }
 
 -- ---- as the code has them
@@ -178,11 +178,11 @@ booked_behind members os xs o kept awaited none is b =
     (subst (λ (l : List Offer). IsBooked members l kept 0) (sym is) (booked_late members os o kept (subst (λ n. IsBooked members os kept n) none b)))
 
 pub booked_with : (members : List Member) (os xs ys : List Offer) (o : Offer) (kept awaited len next : ℕ) → awaited ≢ 0 → ys ≡ os → xs ≡ os ++ o ∷ [] → len ≡ length xs → IsBooked members os kept awaited
-    → next ≡ awaited_of members (made_in ys ++ made_by o ∷ []) → IsBooked members xs len next
+    → next ≡ missing_parts members (made_in ys ++ made_by o ∷ []) → IsBooked members xs len next
 booked_with members os xs ys o kept awaited len next some same is long b now =
     subst (λ n. IsBooked members xs n next) (sym long)
     (subst (λ (l : List Offer). IsBooked members l (length l) next) (sym is)
-    (booked_more members os o kept awaited next b some (now ∙ ap (λ (l : List Offer). awaited_of members (made_in l ++ made_by o ∷ [])) same)))
+    (booked_more members os o kept awaited next b some (now ∙ ap (λ (l : List Offer). missing_parts members (made_in l ++ made_by o ∷ [])) same)))
 
 pub none_decides : (members : List MemberOf) (os : List Offer) → [] ≡ os → (length members == 0) ≡ decides (map member_of members) (made_in os)
 none_decides members os none = at_first members ∙ ap (λ (l : List Offer). decides (map member_of members) (made_in l)) none

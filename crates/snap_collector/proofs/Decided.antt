@@ -10,7 +10,7 @@ use Rattle.std.proofs.lemmas.List.{append-nil, get_or_default, length-map}
 use Rattle.std.proofs.lemmas.List.Edits.{length-insert, get_or-insert_below, get_or-insert_at, get_or-insert_above}
 use Rattle.std.proofs.lemmas.List.Elements.{Contains-append_left, Contains-push, Contains-push_cases}
 use Rattle.std.proofs.lemmas.List.Sorted.{searched, Contains-permutation, IsPermutation-sym, IsPermutation-to_front, IsPermutation-insert}
-use Rattle.ranked_policy.specs.declared.network.Router.{Router}
+use Rattle.ranked_policy.specs.declared.network.NetRouter.{NetRouter}
 use Rattle.ranked_policy.specs.Plans.{Plan, IsNetwork, numbers}
 use Rattle.run_model.specs.Offers.{number_of}
 use Rattle.snap_marker.specs.Parts as parts
@@ -141,7 +141,7 @@ placed r y xs a b e h = h ∙ ap (λ q. if is_ok q then a else b) e
 
 pub none_decided : (net : Plan) → IsNetwork net → (members : List MemberOf) → AreMembers net members → decides (map member_of members) [] ≡ false
 none_decided net n [] are = (
-    let none : 0 ≡ length net.routers = ap length are.routers ∙ length-map net.routers (λ (r : Router). r.asn) in
+    let none : 0 ≡ length net.routers = ap length are.routers ∙ length-map net.routers (λ (r : NetRouter). r.asn) in
     let some = n.some in
     absurd (omega arith))
 none_decided net n (m ∷ ms) are = refl

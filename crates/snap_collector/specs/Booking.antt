@@ -16,8 +16,8 @@ missing [] ms = 0
 missing (m ∷ rest) ms = cond (has_part ms m.router (λ part. true)) (missing rest ms) (suc (missing rest ms))
 
 -- how many routers the offers await: none if one offer is a loss
-abbrev pub awaited_of : List Member → List MadeOffer → ℕ
-awaited_of members ms = cond (any_lost ms) 0 (missing members ms)
+abbrev pub missing_parts : List Member → List MadeOffer → ℕ
+missing_parts members ms = cond (any_lost ms) 0 (missing members ms)
 
 -- how often a router is among the members
 abbrev pub times : List Member → ℕ → ℕ
@@ -29,7 +29,7 @@ pub record IsBooked (members : List Member) (offers : List Offer) (kept awaited 
   pub inside : kept ≤ length offers
   pub exact : made_in (take kept offers) ≡ kept_of members (made_in offers)
   pub waiting : awaited ≢ 0 → kept ≡ length offers
-  pub awaits : awaited ≡ awaited_of members (made_in offers)
+  pub awaits : awaited ≡ missing_parts members (made_in offers)
 
 abbrev pub IsBook : List Member → Book → Type 0
 IsBook members b = IsBooked members b.offers.items b.kept b.awaited

@@ -4,7 +4,7 @@
 //! the number of offers kept stays: no offer is looked at again.
 
 ghost use Rattle.std.specs.Prelude.{◌≡◌, ◌++◌, [], ◌∷◌, ◌<◌, ◌≤◌, false, List, length, map, vec_len, vec_capacity, OnOk};
-ghost use Rattle.snap_collector.specs.Booking.{IsBook, awaited_of, missing, times};
+ghost use Rattle.snap_collector.specs.Booking.{IsBook, missing_parts, missing, times};
 ghost use Rattle.snap_collector.specs.Collecting.{made_by, made_in, member_of};
 ghost use Rattle.snap_collector.specs.Verdicts.{Member as member, any_lost};
 
@@ -39,10 +39,10 @@ fn times(members: &[Member], router: Asn) -> usize
 }
 
 // How many routers are awaited after one more offer, if `awaited` were awaited before it.
-fn awaited_with(members: &[Member], offers: &[Offer], awaited: usize, offer: &Offer) -> usize
+fn missing_with(members: &[Member], offers: &[Offer], awaited: usize, offer: &Offer) -> usize
     requires unlost { any_lost (made_in offers.now) ≡ false }
     requires awaited { awaited ≡ missing (map member_of members.now) (made_in offers.now) }
-    ensures { result ≡ awaited_of (map member_of members.now) (made_in offers.now ++ made_by offer.now ∷ []) }
+    ensures { result ≡ missing_parts (map member_of members.now) (made_in offers.now ++ made_by offer.now ∷ []) }
 {
     match offer {
         Offer::Part(part) => {
@@ -89,7 +89,7 @@ impl Book {
             self.offers.push_reserved(offer);
             return;
         }
-        let awaited = awaited_with(members, self.offers.as_slice(), self.awaited, &offer);
+        let awaited = missing_with(members, self.offers.as_slice(), self.awaited, &offer);
         self.offers.push_reserved(offer);
         self.kept = self.offers.len();
         self.awaited = awaited;

@@ -23,7 +23,7 @@ mod flights;
 pub mod laws;
 mod members;
 mod outcome;
-mod places;
+mod part_index;
 mod verdicts;
 
 pub use answer::{CollectError, Taken};

@@ -4,7 +4,7 @@ ghost use Rattle.std.specs.Prelude.{◌≡◌, map};
 ghost use Rattle.snap_collector.specs.Verdicts.{is_member};
 ghost use Rattle.snap_collector.specs.Collecting.{member_of};
 
-use ranked_policy::{Asn, Items};
+use ranked_policy::{Asn, NetItems};
 
 /// A router, and its peers.
 #[derive(Debug, Drop)]
@@ -12,7 +12,7 @@ pub struct Member {
     /// The router.
     pub router: Asn,
     /// Its peers, rising.
-    pub peers: Items<Asn>,
+    pub peers: NetItems<Asn>,
 }
 
 /// Whether a router is one of the members.

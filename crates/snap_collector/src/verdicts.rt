@@ -14,7 +14,7 @@ ghost use Rattle.snap_collector.specs.Collecting.{member_of, made_in, why_of, ou
 
 use crate::members::Member;
 use crate::outcome::{Outcome, Why};
-use crate::places::{Places, places_of};
+use crate::part_index::{PartIndex, places_of};
 use ranked_policy::Asn;
 use snap_marker::{Lost, Offer, Part};
 
@@ -82,7 +82,7 @@ pub(crate) fn has_part(offers: &[Offer], router: Asn) -> bool
 /// The part of a router in the slot of a member, if the places lead to it. It is then the router's only part.
 fn found_part<'o>(
     offers: &'o [Offer],
-    places: Option<&Places>,
+    places: Option<&PartIndex>,
     slot: usize,
     router: Asn,
 ) -> Option<&'o Part>
@@ -97,7 +97,7 @@ fn found_part<'o>(
 }
 
 /// Whether the router of the member in this slot has offered a part.
-fn has_part_in(offers: &[Offer], places: Option<&Places>, slot: usize, router: Asn) -> bool
+fn has_part_at(offers: &[Offer], places: Option<&PartIndex>, slot: usize, router: Asn) -> bool
     requires { IfSome places (λ p. LeadTo p.now.routers p.now.places offers.now) }
     ensures { result ≡ has_part (made_in offers.now) router (λ part. true) }
 {
@@ -108,12 +108,12 @@ fn has_part_in(offers: &[Offer], places: Option<&Places>, slot: usize, router: A
 }
 
 /// Whether every router has offered a part.
-fn all_parts(members: &[Member], offers: &[Offer], places: Option<&Places>) -> bool
+fn all_parts(members: &[Member], offers: &[Offer], places: Option<&PartIndex>) -> bool
     requires { IfSome places (λ p. LeadTo p.now.routers p.now.places offers.now) }
     ensures { result ≡ all_parts (map member_of members.now) (made_in offers.now) }
 {
     for (slot, member) in members.iter().enumerate() {
-        if !has_part_in(offers, places, slot, member.router) {
+        if !has_part_at(offers, places, slot, member.router) {
             return false;
         }
     }
@@ -240,14 +240,20 @@ fn sole_part(offers: &[Offer], router: Asn) -> Option<&Part>
 }
 
 /// The least peer whose channel in the part has an UPDATE.
-fn flight_in(part: &Part, peers: &[Asn]) -> Option<Asn>
+fn flight_of(part: &Part, peers: &[Asn]) -> Option<Asn>
     ensures { result ≡ find (λ v. not (is_empty ((part_of part.now).channel v))) peers.now }
 {
     peers.iter().copied().find(|peer| part.is_in_flight(*peer))
 }
 
 /// Whether a part of the peer names another incarnation of its link to the router than this part of the router.
-fn differs(offers: &[Offer], places: Option<&Places>, router: Asn, part: &Part, peer: Asn) -> bool
+fn differs(
+    offers: &[Offer],
+    places: Option<&PartIndex>,
+    router: Asn,
+    part: &Part,
+    peer: Asn,
+) -> bool
     requires { IfSome places (λ p. LeadTo p.now.routers p.now.places offers.now) }
     ensures { result
         ≡ has_part (made_in offers.now) peer
@@ -263,9 +269,9 @@ fn differs(offers: &[Offer], places: Option<&Places>, router: Asn, part: &Part, 
 }
 
 /// The least peer whose part names another incarnation of the link than this part of the router.
-fn mismatch_in(
+fn mismatch_of(
     offers: &[Offer],
-    places: Option<&Places>,
+    places: Option<&PartIndex>,
     router: Asn,
     part: &Part,
     peers: &[Asn],
@@ -285,7 +291,7 @@ fn mismatch_in(
 /// The first fault of a router by its only part. The other offers are looked at only for mismatches.
 fn sole_fault(
     offers: &[Offer],
-    places: Option<&Places>,
+    places: Option<&PartIndex>,
     member: &Member,
     part: &Part,
 ) -> Option<Why>
@@ -298,9 +304,9 @@ fn sole_fault(
         return Some(Why::Pending);
     }
     let peers = member.peers.as_slice();
-    match flight_in(part, peers) {
+    match flight_of(part, peers) {
         Some(peer) => Some(Why::InFlight(peer)),
-        None => match mismatch_in(offers, places, member.router, part, peers) {
+        None => match mismatch_of(offers, places, member.router, part, peers) {
             Some(peer) => Some(Why::Mismatch(peer)),
             None => None,
         },
@@ -308,7 +314,12 @@ fn sole_fault(
 }
 
 /// The first fault of a router's parts. The member stands in this slot.
-fn fault_at(offers: &[Offer], places: Option<&Places>, slot: usize, member: &Member) -> Option<Why>
+fn fault_at(
+    offers: &[Offer],
+    places: Option<&PartIndex>,
+    slot: usize,
+    member: &Member,
+) -> Option<Why>
     requires { IfSome places (λ p. LeadTo p.now.routers p.now.places offers.now) }
     ensures { option_map why_of result ≡ fault_at (made_in offers.now) (member_of member.now) }
 {
@@ -331,7 +342,7 @@ fn fault_at(offers: &[Offer], places: Option<&Places>, slot: usize, member: &Mem
 }
 
 /// The outcome of parts of every router: the first fault of them, or settled.
-fn faults(members: &[Member], offers: &[Offer], places: Option<&Places>) -> Outcome
+fn faults(members: &[Member], offers: &[Offer], places: Option<&PartIndex>) -> Outcome
     requires { IfSome places (λ p. LeadTo p.now.routers p.now.places offers.now) }
     ensures { outcome_of result ≡ moving_or_settled (first_fault (map member_of members.now) (made_in offers.now)) }
 {

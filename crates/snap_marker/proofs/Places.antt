@@ -6,7 +6,7 @@ use Rattle.std.specs.List.{position, position_or_len}
 use Rattle.std.proofs.lemmas.Bool.{false≢true, eqb-true, eqb-false, eq-eqb, ne_eqb}
 use Rattle.std.proofs.lemmas.Bool.Decides.{nat_tests}
 use Rattle.snap_marker.specs.declared.part.Channel.{Channel}
-use Rattle.snap_marker.specs.Parts.{leads, leads_to, link_has, with_link, is_heard_in, waits_in, peers_of, IsAt}
+use Rattle.snap_marker.specs.Parts.{leads, leads_to, link_has, with_link, is_heard_in, waits_for_marker, peers_of, IsAt}
 
 at_head : (b : Bool) (c : Channel) (cs : List Channel) (v k : ℕ) → (v == c.peer) ≡ b → (k < length cs → IsAt cs v k)
     → cond (not b) (1 + k) 0 < length (c ∷ cs) → IsAt (c ∷ cs) v (cond (not b) (1 + k) 0)
@@ -124,22 +124,22 @@ peers_kept cs v i p q h here n = peers_set cs v i q h (named cs v i p q h here n
 
 -- a channel that is heard is there, and waits for its marker
 heard_head : (b : Bool) (c : Channel) (cs : List Channel) (v : ℕ) → (v == c.peer) ≡ b
-    → (is_heard_in cs v ≡ true → (leads_to v cs ≡ true) × (waits_in cs v ≡ true))
-    → cond b c.is_open (is_heard_in cs v) ≡ true → ((b || leads_to v cs) ≡ true) × (cond b c.is_open (waits_in cs v) ≡ true)
+    → (is_heard_in cs v ≡ true → (leads_to v cs ≡ true) × (waits_for_marker cs v ≡ true))
+    → cond b c.is_open (is_heard_in cs v) ≡ true → ((b || leads_to v cs) ≡ true) × (cond b c.is_open (waits_for_marker cs v) ≡ true)
 heard_head true c cs v e rest h = (refl, h)
 heard_head false c cs v e rest h = rest h
 
-pub heard_is : (cs : List Channel) (v : ℕ) → is_heard_in cs v ≡ true → (leads_to v cs ≡ true) × (waits_in cs v ≡ true)
+pub heard_is : (cs : List Channel) (v : ℕ) → is_heard_in cs v ≡ true → (leads_to v cs ≡ true) × (waits_for_marker cs v ≡ true)
 heard_is [] v h = absurd (false≢true h)
 heard_is (c ∷ cs) v h = heard_head (v == c.peer) c cs v refl (heard_is cs v) h
 
 -- one that is not heard does not wait, where it is there
 unheard_head : (b : Bool) (c : Channel) (cs : List Channel) (v : ℕ) → (v == c.peer) ≡ b
-    → (leads_to v cs ≡ true → is_heard_in cs v ≡ waits_in cs v)
-    → (b || leads_to v cs) ≡ true → cond b c.is_open (is_heard_in cs v) ≡ cond b c.is_open (waits_in cs v)
+    → (leads_to v cs ≡ true → is_heard_in cs v ≡ waits_for_marker cs v)
+    → (b || leads_to v cs) ≡ true → cond b c.is_open (is_heard_in cs v) ≡ cond b c.is_open (waits_for_marker cs v)
 unheard_head true c cs v e rest h = refl
 unheard_head false c cs v e rest h = rest h
 
-pub heard_as : (cs : List Channel) (v : ℕ) → leads_to v cs ≡ true → is_heard_in cs v ≡ waits_in cs v
+pub heard_as : (cs : List Channel) (v : ℕ) → leads_to v cs ≡ true → is_heard_in cs v ≡ waits_for_marker cs v
 heard_as [] v h = absurd (false≢true h)
 heard_as (c ∷ cs) v h = unheard_head (v == c.peer) c cs v refl (heard_as cs v) h

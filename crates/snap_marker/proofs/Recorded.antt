@@ -12,7 +12,7 @@ use Rattle.std.specs.Option.{unwrap_or}
 use Rattle.std.proofs.Math.Path.{fun_ext}
 use Rattle.snap_marker.specs.Recordings.{Recording, joins_channel}
 use Rattle.snap_marker.proofs.Places.{heard_is, heard_as}
-use Rattle.snap_marker.specs.Parts.{router_of, is_heard, is_heard_in, IsLink, copy_for, with_link, recording_in, recording_of, waits_in, epoch_in, channel_in, kept_in, originated_in}
+use Rattle.snap_marker.specs.Parts.{router_of, is_heard, is_heard_in, IsLink, copy_for, with_link, recording_in, recording_of, waits_for_marker, epoch_in, channel_in, kept_in, originated_in}
 
 -- a recording whose links have these incarnations, channels and missing markers
 abbrev pub with_links : Part → (ℕ → ℕ) → (ℕ → List Message) → (ℕ → Bool) → Recording
@@ -34,7 +34,7 @@ joined_at f ms v y false e = refl
 joined : (f : ℕ → List Message) (ms : List Message) (v : ℕ) → with_link v (f v ++ ms) f ≡ (λ y. cond (y == v) (f y ++ ms) (f y))
 joined f ms v = fun_ext (λ y. joined_at f ms v y (y == v) refl)
 
-unheard_by : (b : Bool) (p : Part) (v : ℕ) (u : Update) → waits_in p.channels.items v ≡ b → None ≡ cond b (Some u) None
+unheard_by : (b : Bool) (p : Part) (v : ℕ) (u : Update) → waits_for_marker p.channels.items v ≡ b → None ≡ cond b (Some u) None
     → Some (recording_of p) ≡ joins_channel v (UpdateMsg u) (Some (recording_of p))
 unheard_by true p v u w e = absurd (none-some _ e)
 unheard_by false p v u w e = rw w refl
@@ -44,14 +44,14 @@ pub not_heard : (o : Option Part) (v : ℕ) (u : Update) → IsLink o v → None
 not_heard None v u link e = refl
 not_heard (Some p) v u link e =
     let same = heard_as p.channels.items v link in
-    unheard_by (waits_in p.channels.items v) p v u refl (subst (λ b. None ≡ cond b (Some u) None) same e)
+    unheard_by (waits_for_marker p.channels.items v) p v u refl (subst (λ b. None ≡ cond b (Some u) None) same e)
 
 -- one that is copied joins the channel of its peer
 pub heard : (p q : Part) (v : ℕ) (u : Update) → is_heard_in p.channels.items v ≡ true
-    → recording_of q ≡ with_links p (epoch_in q.channels.items) (channel_in q.channels.items) (waits_in q.channels.items)
+    → recording_of q ≡ with_links p (epoch_in q.channels.items) (channel_in q.channels.items) (waits_for_marker q.channels.items)
     → epoch_in q.channels.items ≡ epoch_in p.channels.items
     → channel_in q.channels.items ≡ with_link v (channel_in p.channels.items v ++ UpdateMsg u ∷ []) (channel_in p.channels.items)
-    → waits_in q.channels.items ≡ waits_in p.channels.items
+    → waits_for_marker q.channels.items ≡ waits_for_marker p.channels.items
     → Some (recording_of q) ≡ joins_channel v (UpdateMsg u) (Some (recording_of p))
 heard p q v u h is es cs ws =
     let still = (heard_is p.channels.items v h).1 in
@@ -67,10 +67,10 @@ copied o v u w e = copied_by (is_heard o v) u w e
 -- ---- a marker that ends a channel
 
 pub ended : (p q : Part) (v : ℕ)
-    → recording_of q ≡ with_links p (epoch_in q.channels.items) (channel_in q.channels.items) (waits_in q.channels.items)
+    → recording_of q ≡ with_links p (epoch_in q.channels.items) (channel_in q.channels.items) (waits_for_marker q.channels.items)
     → epoch_in q.channels.items ≡ epoch_in p.channels.items → channel_in q.channels.items ≡ channel_in p.channels.items
-    → waits_in q.channels.items ≡ with_link v false (waits_in p.channels.items)
-    → recording_of q ≡ record (recording_of p) { waits = λ y. cond (y == v) false (waits_in p.channels.items y) }
+    → waits_for_marker q.channels.items ≡ with_link v false (waits_for_marker p.channels.items)
+    → recording_of q ≡ record (recording_of p) { waits = λ y. cond (y == v) false (waits_for_marker p.channels.items y) }
 ended p q v is es cs ws = is ∙ links_alike p _ _ _ _ _ _ es cs ws
 
 -- ---- an offer that is queued

@@ -59,8 +59,8 @@ abbrev pub channel_in : List Channel → ℕ → List Message
 channel_in = link_has [] (λ c. messages c.updates.items)
 
 -- whether the marker of the peer is missing; true also for a number that is no peer
-abbrev pub waits_in : List Channel → ℕ → Bool
-waits_in = link_has true (λ c. c.is_open)
+abbrev pub waits_for_marker : List Channel → ℕ → Bool
+waits_for_marker = link_has true (λ c. c.is_open)
 
 -- whether the peer has a channel, and it is open
 abbrev pub is_heard_in : List Channel → ℕ → Bool
@@ -86,7 +86,7 @@ part_of p = record {
 }
 
 abbrev pub recording_of : Part → Recording
-recording_of p = record { number = p.number; part = part_of p; waits = waits_in p.channels.items }
+recording_of p = record { number = p.number; part = part_of p; waits = waits_for_marker p.channels.items }
 
 abbrev pub cause_of : Cause → model.Cause
 cause_of cause.NotUp = model.NotUp

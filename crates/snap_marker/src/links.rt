@@ -3,7 +3,7 @@
 ghost use Rattle.std.specs.Prelude.{◌≡◌, ◌≤◌, ◌<◌, [], ◌∷◌, ◌++◌, true, false, not, cond, Some, None, length, MatchOption, IfOk, OnOk};
 ghost use Rattle.bgp_codec.specs.declared.message.Message.TheVariants.{UpdateMsg};
 ghost use Rattle.std.specs.List.{find, list_any, position};
-ghost use Rattle.snap_marker.specs.Parts.{peers_of, epoch_in, waits_in, channel_in, is_empty, messages, room_in, is_heard_in, with_link, IsAt, leads, leads_to};
+ghost use Rattle.snap_marker.specs.Parts.{peers_of, epoch_in, waits_for_marker, channel_in, is_empty, messages, room_in, is_heard_in, with_link, IsAt, leads, leads_to};
 
 use crate::part::Channel;
 use bgp_codec::Update;
@@ -45,8 +45,8 @@ pub(crate) fn epoch_in(channels: &[Channel], peer: Asn) -> u32
 }
 
 /// Whether a peer's marker is still to come; true also for a number that is no peer.
-pub(crate) fn waits_in(channels: &[Channel], peer: Asn) -> bool
-    ensures { result ≡ waits_in channels.now peer }
+pub(crate) fn waits_for_marker(channels: &[Channel], peer: Asn) -> bool
+    ensures { result ≡ waits_for_marker channels.now peer }
 {
     for channel in channels {
         if peer == channel.peer {
@@ -58,10 +58,10 @@ pub(crate) fn waits_in(channels: &[Channel], peer: Asn) -> bool
 
 /// The first of the peers of `channels` whose marker is missing from `recorded`.
 pub(crate) fn first_waiting(channels: &[Channel], recorded: &[Channel]) -> Option<Asn>
-    ensures { result ≡ find (waits_in recorded.now) (peers_of channels.now) }
+    ensures { result ≡ find (waits_for_marker recorded.now) (peers_of channels.now) }
 {
     for channel in channels {
-        if waits_in(recorded, channel.peer) {
+        if waits_for_marker(recorded, channel.peer) {
             return Some(channel.peer);
         }
     }
@@ -70,10 +70,10 @@ pub(crate) fn first_waiting(channels: &[Channel], recorded: &[Channel]) -> Optio
 
 /// Whether the marker of some peer is missing.
 pub(crate) fn is_open(channels: &[Channel]) -> bool
-    ensures { result ≡ list_any (waits_in channels.now) (peers_of channels.now) }
+    ensures { result ≡ list_any (waits_for_marker channels.now) (peers_of channels.now) }
 {
     for channel in channels {
-        if waits_in(channels, channel.peer) {
+        if waits_for_marker(channels, channel.peer) {
             return true;
         }
     }
@@ -117,7 +117,7 @@ fn is_empty(updates: &[Update]) -> bool
 /// Closes the channel of a peer: its marker has come.
 pub(crate) fn close_channel(channels: &mut Vec<Channel>, peer: Asn)
     requires { leads_to peer channels.old.items ≡ true }
-    ensures waits { waits_in channels.new.items ≡ with_link peer false (waits_in channels.old.items) }
+    ensures waits { waits_for_marker channels.new.items ≡ with_link peer false (waits_for_marker channels.old.items) }
     ensures epochs { epoch_in channels.new.items ≡ epoch_in channels.old.items }
     ensures channels { channel_in channels.new.items ≡ channel_in channels.old.items }
     ensures peers { peers_of channels.new.items ≡ peers_of channels.old.items }
@@ -131,7 +131,7 @@ pub(crate) fn close_channel(channels: &mut Vec<Channel>, peer: Asn)
 fn reserve_update(channels: &mut Vec<Channel>, peer: Asn) -> Result<(), AllocError>
     ensures room { OnOk result (leads_to peer channels.old.items ≡ true → 1 ≤ room_in channels.new.items peer) }
     ensures heard { is_heard_in channels.new.items ≡ is_heard_in channels.old.items }
-    ensures waits { waits_in channels.new.items ≡ waits_in channels.old.items }
+    ensures waits { waits_for_marker channels.new.items ≡ waits_for_marker channels.old.items }
     ensures epochs { epoch_in channels.new.items ≡ epoch_in channels.old.items }
     ensures channels { channel_in channels.new.items ≡ channel_in channels.old.items }
     ensures peers { peers_of channels.new.items ≡ peers_of channels.old.items }
@@ -152,7 +152,7 @@ pub(crate) fn copy_update(
     ensures copy { IfOk result (λ copy. copy ≡ cond (is_heard_in channels.old.items peer) (Some update.now) None) }
     ensures room { OnOk result (is_heard_in channels.new.items peer ≡ true → 1 ≤ room_in channels.new.items peer) }
     ensures heard { is_heard_in channels.new.items ≡ is_heard_in channels.old.items }
-    ensures waits { waits_in channels.new.items ≡ waits_in channels.old.items }
+    ensures waits { waits_for_marker channels.new.items ≡ waits_for_marker channels.old.items }
     ensures epochs { epoch_in channels.new.items ≡ epoch_in channels.old.items }
     ensures channels { channel_in channels.new.items ≡ channel_in channels.old.items }
     ensures peers { peers_of channels.new.items ≡ peers_of channels.old.items }
@@ -171,7 +171,7 @@ pub(crate) fn push_update(channels: &mut Vec<Channel>, peer: Asn, update: Update
     requires room { 1 ≤ room_in channels.old.items peer }
     ensures channels { channel_in channels.new.items
         ≡ with_link peer (channel_in channels.old.items peer ++ UpdateMsg update ∷ []) (channel_in channels.old.items) }
-    ensures waits { waits_in channels.new.items ≡ waits_in channels.old.items }
+    ensures waits { waits_for_marker channels.new.items ≡ waits_for_marker channels.old.items }
     ensures epochs { epoch_in channels.new.items ≡ epoch_in channels.old.items }
     ensures peers { peers_of channels.new.items ≡ peers_of channels.old.items }
 {

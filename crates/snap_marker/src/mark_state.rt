@@ -7,7 +7,8 @@ ghost use Rattle.snap_marker.specs.Recordings.{no_snapshots, begun_at, supersedi
 ghost use Rattle.snap_marker.specs.Parts.{MarkView, snapshots_of, recording_of, peers_of, offers_owed, copy_for, is_heard, router_of, IsLink, IsOver, AreOf, HasRoom};
 
 use crate::links::{
-    close_channel, copy_update, epoch_in, first_waiting, is_open, leads_to, push_update, waits_in,
+    close_channel, copy_update, epoch_in, first_waiting, is_open, leads_to, push_update,
+    waits_for_marker,
 };
 use crate::part::{Cause, Lost, Offer, Part};
 use crate::refusal::MarkError;
@@ -192,7 +193,7 @@ impl MarkState {
         let Some(mut part) = self.unfinished.take() else {
             return;
         };
-        if part.number == number && waits_in(&part.channels, peer) {
+        if part.number == number && waits_for_marker(&part.channels, peer) {
             close_channel(&mut part.channels, peer);
             self.go_on(part);
         } else {

@@ -10,7 +10,7 @@ use Rattle.prefix_lanes.specs.Bits.{PrefixView}
 use Rattle.std.proofs.lemmas.Grind.{flat_map-append}
 use Rattle.ranked_policy.specs.Plans.{Plan}
 use Rattle.ranked_policy.specs.declared.network.Origin.{Origin}
-use Rattle.stable_search.specs.declared.limits.Limits.{Limits}
+use Rattle.stable_search.specs.declared.limits.SearchLimits.{SearchLimits}
 use Rattle.stable_engine.specs.Listing.{route_text}
 use Rattle.stable_engine.specs.Answers.{Answer, IsFound, found_text, answers_text, are_known, PutsFound, PutsAnswers}
 
@@ -30,7 +30,7 @@ and_true true = refl
 and_true false = refl
 
 -- an answer more
-pub answered_more : (limits : Limits) (net : Plan) (os : List Origin) (i : ℕ) (o : Origin) (old mid new : List ℕ) (known is_known : Bool)
+pub answered_more : (limits : SearchLimits) (net : Plan) (os : List Origin) (i : ℕ) (o : Origin) (old mid new : List ℕ) (known is_known : Bool)
     → i < length os → o ≡ get_or os i o → PutsAnswers limits net (take i os) old mid known → PutsFound limits net o.prefix mid new is_known
     → PutsAnswers limits net (take (i + 1) os) old new (known && is_known)
 answered_more limits net os i o old mid new known is_known lt is puts found =

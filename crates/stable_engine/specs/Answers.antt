@@ -10,7 +10,7 @@ use Rattle.net_text.specs.Lexing.{Text, lines_of, before_section}
 use Rattle.net_text.specs.Networks.{SpellsNetwork, RefusesNetwork}
 use Rattle.net_text.specs.Printing.{code_text}
 use Rattle.stable_search.specs.declared.every.Every.{Every}
-use Rattle.stable_search.specs.declared.limits.Limits.{Limits}
+use Rattle.stable_search.specs.declared.limits.SearchLimits.{SearchLimits}
 use Rattle.stable_search.specs.declared.refusal.SearchError.{SearchError}
 use Rattle.stable_search.specs.declared.refusal.SearchError.TheVariants as search
 use Rattle.stable_search.specs.Every.{IsEveryStable}
@@ -28,7 +28,7 @@ Found = Result Every SearchError
 
 -- the answer for a prefix: all stable assignments, in which no part has more choices than the limit; or a refusal that
 -- means what it says. Want of memory is no answer
-abbrev pub IsFound : Limits → Plan → PrefixView → Found → Type 0
+abbrev pub IsFound : SearchLimits → Plan → PrefixView → Found → Type 0
 IsFound limits net q (Ok every) = IsEveryStable (at_prefix net q) every × AreFew limits.most every.parts
 IsFound limits net q (Err why) = (why ≢ search.Memory) × IsRefusal (at_prefix net q) limits why
 
@@ -55,7 +55,8 @@ abbrev pub are_known : List Answer → Bool
 are_known answers = list_all (λ a. is_ok a.found) answers
 
 -- an answer for the prefix of each origin, with its text; and whether each is known
-pub record AreAnswered (limits : Limits) (net : Plan) (origins : List Origin) (text : List ℕ) (known : Bool) : Type 0 where
+pub record AreAnswered (limits : SearchLimits) (net : Plan) (origins : List Origin) (text : List ℕ)
+    (known : Bool) : Type 0 where
   pub answers : List Answer
   pub prefixes : map (λ a. a.prefix) answers ≡ map (λ o. o.prefix) origins
   pub each : All (λ a. IsFound limits net a.prefix a.found) answers
@@ -63,19 +64,19 @@ pub record AreAnswered (limits : Limits) (net : Plan) (origins : List Origin) (t
   pub all_known : known ≡ are_known answers
 
 -- the new text is the old one, with the answer for a prefix at its end
-abbrev pub PutsFound : Limits → Plan → PrefixView → List ℕ → List ℕ → Bool → Type 0
+abbrev pub PutsFound : SearchLimits → Plan → PrefixView → List ℕ → List ℕ → Bool → Type 0
 PutsFound limits net q old new known =
     (found : Found) × IsFound limits net q found × (new ≡ old ++ found_text net q found) × (known ≡ is_ok found)
 
 -- the new text is the old one, with the answers for the prefixes of these origins at its end
-abbrev pub PutsAnswers : Limits → Plan → List Origin → List ℕ → List ℕ → Bool → Type 0
+abbrev pub PutsAnswers : SearchLimits → Plan → List Origin → List ℕ → List ℕ → Bool → Type 0
 PutsAnswers limits net origins old new known = (text : List ℕ) × AreAnswered limits net origins text known × (new ≡ old ++ text)
 
 abbrev pub status_of : Bool → ℕ
 status_of known = if known then DONE else UNKNOWN
 
 -- an answer for each origin's prefix, by address, then by length, and the status that says whether all are known
-abbrev pub StablesGive : Limits → Plan → Output → Type 0
+abbrev pub StablesGive : SearchLimits → Plan → Output → Type 0
 StablesGive limits net out =
     (text : List ℕ) × (known : Bool) × AreAnswered limits net net.origins text known × (out ≡ output text (status_of known))
 
@@ -85,15 +86,15 @@ StablesGive limits net out =
 abbrev pub network_lines : List ℕ → List Text
 network_lines input = before_section (codes "schedule") (before_section (codes "assignment") (lines_of input))
 
-abbrev pub LinesList : Limits → List Text → Output → Type 0
+abbrev pub LinesList : SearchLimits → List Text → Output → Type 0
 LinesList limits lines out =
     ((at : ℕ) × (code : Code) × (code ≢ kinds.Memory) × RefusesNetwork lines at code × (out ≡ refused at (code_text code)))
     ⊎ ((net : Plan) × SpellsNetwork lines net × StablesGive limits net out)
 
 -- the text for an input, which may be too long
-abbrev pub InputLists : Limits → List ℕ → Output → Type 0
+abbrev pub InputLists : SearchLimits → List ℕ → Output → Type 0
 InputLists limits input out = WithinLimit (λ text. LinesList limits (network_lines text)) input out
 
 -- the text that the program prints: this one, or that memory ran out
-abbrev pub Lists : Limits → List ℕ → Output → Type 0
+abbrev pub Lists : SearchLimits → List ℕ → Output → Type 0
 Lists limits input out = OrMemory (InputLists limits) input out

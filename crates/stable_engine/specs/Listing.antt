@@ -2,9 +2,9 @@
 use Rattle.std.specs.Prelude.{ℕ, ◌==◌, ◌+◌, ◌^◌, nat_lt, not, Bool, List, [], ◌∷◌, ◌++◌, filter, length, codes, decimal, if◌then◌else◌}
 use Rattle.std.specs.List.{flat_map}
 use Rattle.prefix_lanes.specs.Bits.{PrefixView}
-use Rattle.ranked_policy.specs.declared.network.Router.{Router}
+use Rattle.ranked_policy.specs.declared.network.NetRouter.{NetRouter}
 use Rattle.net_text.specs.Printing.{line, prefix_text, numbers_text, routed_line}
-use Rattle.stable_search.specs.declared.every.Part.{Part}
+use Rattle.stable_search.specs.declared.every.Component.{Component}
 use Rattle.stable_search.specs.Every.{number_of}
 
 -- ---- lines
@@ -49,29 +49,29 @@ only_text q u vs [] = []
 only_text q u vs (choice ∷ []) = route_text q u vs choice
 only_text q u vs (choice ∷ other ∷ choices) = []
 
-abbrev pub routes_of : PrefixView → ℕ → List Part → List ℕ
+abbrev pub routes_of : PrefixView → ℕ → List Component → List ℕ
 routes_of q u parts = flat_map (λ part. only_text q u part.routers part.choices) parts
 
-abbrev pub routes_text : PrefixView → List Router → List Part → List ℕ
+abbrev pub routes_text : PrefixView → List NetRouter → List Component → List ℕ
 routes_text q routers parts = flat_map (λ r. routes_of q r.asn parts) routers
 
 -- ---- disputes
 
-abbrev pub is_dispute : Part → Bool
+abbrev pub is_dispute : Component → Bool
 is_dispute part = not (length part.choices == 1)
 
 abbrev pub choices_text : List (List (List ℕ)) → List ℕ
 choices_text choices = flat_map choice_line choices
 
-abbrev pub dispute_text : ℕ → PrefixView → Part → List ℕ
+abbrev pub dispute_text : ℕ → PrefixView → Component → List ℕ
 dispute_text i q part = dispute_line i q (length part.choices) part.routers ++ choices_text part.choices
 
 -- disputes, each with its number; the first has this one
-abbrev pub disputes_text : ℕ → PrefixView → List Part → List ℕ
+abbrev pub disputes_text : ℕ → PrefixView → List Component → List ℕ
 disputes_text i q [] = []
 disputes_text i q (part ∷ parts) = dispute_text i q part ++ disputes_text (i + 1) q parts
 
 -- ---- a prefix
 
-abbrev pub every_text : PrefixView → List Router → List Part → List ℕ
+abbrev pub every_text : PrefixView → List NetRouter → List Component → List ℕ
 every_text q routers parts = prefix_line q (number_of parts) ++ (routes_text q routers parts ++ disputes_text 1 q (filter is_dispute parts))

@@ -4,14 +4,14 @@ ghost use Rattle.std.specs.Prelude.{◌≡◌, ◌++◌, OnOk};
 ghost use Rattle.stable_search.specs.Every.{number_of};
 ghost use Rattle.stable_engine.specs.Listing.{count_text, prefix_line, numbers_behind, paths_behind, dispute_line, choice_line, unknown_line};
 
-use net_text::{Tail, put_path};
+use net_text::{TextTail, put_path};
 use prefix_lanes::Prefix;
 use ranked_policy::{Asn, Path};
 use stable_search::Every;
 use std::alloc::AllocError;
 
 // Writes how many assignments are stable.
-fn write_count(out: &mut Tail, every: &Every) -> Result<(), AllocError>
+fn write_count(out: &mut TextTail, every: &Every) -> Result<(), AllocError>
     ensures text { OnOk result (out.new.text ≡ out.old.text ++ count_text (number_of every.now.parts)) }
     ensures front { out.new.front ≡ out.old.front }
 {
@@ -22,7 +22,7 @@ fn write_count(out: &mut Tail, every: &Every) -> Result<(), AllocError>
 }
 
 #[tactic(auto, unfolding(crate::specs::Listing::prefix_line))]
-fn write_prefix(out: &mut Tail, prefix: &Prefix, every: &Every) -> Result<(), AllocError>
+fn write_prefix(out: &mut TextTail, prefix: &Prefix, every: &Every) -> Result<(), AllocError>
     ensures text { OnOk result (out.new.text ≡ out.old.text ++ prefix_line prefix.now (number_of every.now.parts)) }
     ensures front { out.new.front ≡ out.old.front }
 {
@@ -41,14 +41,14 @@ pub(crate) fn put_prefix_line(
 ) -> Result<(), AllocError>
     ensures { OnOk result (out.new.items ≡ out.old.items ++ prefix_line prefix.now (number_of every.now.parts)) }
 {
-    let mut tail = Tail::behind(out);
+    let mut tail = TextTail::behind(out);
     let result = write_prefix(&mut tail, prefix, every);
     *out = tail.finish(result.is_ok());
     result
 }
 
 // Writes numbers, a space before each.
-fn write_numbers(out: &mut Tail, numbers: &[Asn]) -> Result<(), AllocError>
+fn write_numbers(out: &mut TextTail, numbers: &[Asn]) -> Result<(), AllocError>
     ensures text { OnOk result (out.new.text ≡ out.old.text ++ numbers_behind numbers.now) }
     ensures front { out.new.front ≡ out.old.front }
 {
@@ -60,7 +60,7 @@ fn write_numbers(out: &mut Tail, numbers: &[Asn]) -> Result<(), AllocError>
 }
 
 // Writes paths, a space before each.
-fn write_paths(out: &mut Tail, paths: &[Path]) -> Result<(), AllocError>
+fn write_paths(out: &mut TextTail, paths: &[Path]) -> Result<(), AllocError>
     ensures text { OnOk result (out.new.text ≡ out.old.text ++ paths_behind paths.now) }
     ensures front { out.new.front ≡ out.old.front }
 {
@@ -73,7 +73,7 @@ fn write_paths(out: &mut Tail, paths: &[Path]) -> Result<(), AllocError>
 
 #[tactic(auto, unfolding(crate::specs::Listing::dispute_line))]
 fn write_dispute(
-    out: &mut Tail,
+    out: &mut TextTail,
     number: usize,
     prefix: &Prefix,
     count: usize,
@@ -102,14 +102,14 @@ pub(crate) fn put_dispute_line(
 ) -> Result<(), AllocError>
     ensures { OnOk result (out.new.items ≡ out.old.items ++ dispute_line number prefix.now count routers.now) }
 {
-    let mut tail = Tail::behind(out);
+    let mut tail = TextTail::behind(out);
     let result = write_dispute(&mut tail, number, prefix, count, routers);
     *out = tail.finish(result.is_ok());
     result
 }
 
 #[tactic(auto, unfolding(crate::specs::Listing::choice_line))]
-fn write_choice(out: &mut Tail, paths: &[Path]) -> Result<(), AllocError>
+fn write_choice(out: &mut TextTail, paths: &[Path]) -> Result<(), AllocError>
     ensures text { OnOk result (out.new.text ≡ out.old.text ++ choice_line paths.now) }
     ensures front { out.new.front ≡ out.old.front }
 {
@@ -122,7 +122,7 @@ fn write_choice(out: &mut Tail, paths: &[Path]) -> Result<(), AllocError>
 pub(crate) fn put_choice_line(paths: &[Path], out: &mut Vec<u8>) -> Result<(), AllocError>
     ensures { OnOk result (out.new.items ≡ out.old.items ++ choice_line paths.now) }
 {
-    let mut tail = Tail::behind(out);
+    let mut tail = TextTail::behind(out);
     let result = write_choice(&mut tail, paths);
     *out = tail.finish(result.is_ok());
     result
@@ -130,7 +130,7 @@ pub(crate) fn put_choice_line(paths: &[Path], out: &mut Vec<u8>) -> Result<(), A
 
 #[tactic(auto, unfolding(crate::specs::Listing::unknown_line))]
 fn write_unknown(
-    out: &mut Tail,
+    out: &mut TextTail,
     prefix: &Prefix,
     why: &[u8],
     routers: &[Asn],
@@ -155,7 +155,7 @@ pub(crate) fn put_unknown_line(
 ) -> Result<(), AllocError>
     ensures { OnOk result (out.new.items ≡ out.old.items ++ unknown_line prefix.now why.now routers.now) }
 {
-    let mut tail = Tail::behind(out);
+    let mut tail = TextTail::behind(out);
     let result = write_unknown(&mut tail, prefix, why, routers);
     *out = tail.finish(result.is_ok());
     result

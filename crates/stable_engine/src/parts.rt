@@ -8,8 +8,8 @@ ghost use Rattle.stable_engine.specs.Listing.{route_text, only_text, routes_of, 
 use crate::lines::{put_choice_line, put_dispute_line, put_prefix_line};
 use net_text::path_line;
 use prefix_lanes::Prefix;
-use ranked_policy::{Asn, Items, Path, Router};
-use stable_search::{Every, Part};
+use ranked_policy::{Asn, NetItems, NetRouter, Path};
+use stable_search::{Component, Every};
 use std::alloc::{AllocError, Global};
 
 // Appends the path of a router, if it is among these routers, which have these paths.
@@ -32,7 +32,12 @@ fn put_route(
 }
 
 // Appends the path of a router, if it is in a part that has one choice.
-fn put_only(prefix: &Prefix, router: Asn, part: &Part, out: &mut Vec<u8>) -> Result<(), AllocError>
+fn put_only(
+    prefix: &Prefix,
+    router: Asn,
+    part: &Component,
+    out: &mut Vec<u8>,
+) -> Result<(), AllocError>
     requires { IsPart part.now }
     ensures { OnOk result
         (out.new.items ≡ out.old.items ++ only_text prefix.now router part.now.routers part.now.choices) }
@@ -53,7 +58,7 @@ fn put_only(prefix: &Prefix, router: Asn, part: &Part, out: &mut Vec<u8>) -> Res
 fn put_routes_of(
     prefix: &Prefix,
     router: Asn,
-    parts: &[Part],
+    parts: &[Component],
     out: &mut Vec<u8>,
 ) -> Result<(), AllocError>
     requires { All IsPart parts.now }
@@ -68,8 +73,8 @@ fn put_routes_of(
 // Appends the paths of the routers that have the same path in all stable assignments.
 fn put_routes(
     prefix: &Prefix,
-    routers: &[Router],
-    parts: &[Part],
+    routers: &[NetRouter],
+    parts: &[Component],
     out: &mut Vec<u8>,
 ) -> Result<(), AllocError>
     requires { All IsPart parts.now }
@@ -82,7 +87,7 @@ fn put_routes(
 }
 
 // Appends the choices of a dispute.
-fn put_choices(choices: &[Items<Path>], out: &mut Vec<u8>) -> Result<(), AllocError>
+fn put_choices(choices: &[NetItems<Path>], out: &mut Vec<u8>) -> Result<(), AllocError>
     ensures { OnOk result (out.new.items ≡ out.old.items ++ choices_text choices.now) }
 {
     for choice in choices {
@@ -95,7 +100,7 @@ fn put_choices(choices: &[Items<Path>], out: &mut Vec<u8>) -> Result<(), AllocEr
 fn put_dispute(
     number: usize,
     prefix: &Prefix,
-    part: &Part,
+    part: &Component,
     out: &mut Vec<u8>,
 ) -> Result<(), AllocError>
     ensures { OnOk result (out.new.items ≡ out.old.items ++ dispute_text number prefix.now part.now) }
@@ -106,7 +111,7 @@ fn put_dispute(
 }
 
 // Appends the disputes among these parts.
-fn put_disputes(prefix: &Prefix, parts: &[Part], out: &mut Vec<u8>) -> Result<(), AllocError>
+fn put_disputes(prefix: &Prefix, parts: &[Component], out: &mut Vec<u8>) -> Result<(), AllocError>
     ensures { OnOk result (out.new.items ≡ out.old.items ++ disputes_text 1 prefix.now (filter is_dispute parts.now)) }
 {
     let mut number = 1usize;
@@ -123,7 +128,7 @@ fn put_disputes(prefix: &Prefix, parts: &[Part], out: &mut Vec<u8>) -> Result<()
 /// all, and the disputes.
 pub(crate) fn put_every(
     prefix: &Prefix,
-    routers: &[Router],
+    routers: &[NetRouter],
     every: &Every,
     out: &mut Vec<u8>,
 ) -> Result<(), AllocError>

@@ -12,7 +12,7 @@ use crate::status::UNKNOWN;
 use prefix_lanes::Prefix;
 use ranked_policy::{Network, Origin};
 use stable_paths::Instance;
-use stable_search::{Every, Limits, SearchError, stable_assignments};
+use stable_search::{Every, SearchError, SearchLimits, stable_assignments};
 use std::alloc::{AllocError, Global};
 use text_engines::status::DONE;
 
@@ -43,7 +43,7 @@ fn put_prefix(
     alloc: Global,
     network: &Network,
     prefix: &Prefix,
-    limits: &Limits,
+    limits: &SearchLimits,
     out: &mut Vec<u8>,
 ) -> Result<bool, AllocError>
     requires { IsNamed network.now.origins prefix.now }
@@ -66,7 +66,7 @@ fn put_prefix(
 fn put_prefixes(
     alloc: Global,
     network: &Network,
-    limits: &Limits,
+    limits: &SearchLimits,
     out: &mut Vec<u8>,
 ) -> Result<bool, AllocError>
     ensures { IfOk result
@@ -86,7 +86,7 @@ fn put_prefixes(
 pub(crate) fn stables_output(
     alloc: Global,
     network: &Network,
-    limits: &Limits,
+    limits: &SearchLimits,
 ) -> Result<(Vec<u8>, u8), AllocError>
     ensures { IfOk result (λ printed. StablesGive limits.now network.now (output printed.0.items printed.1)) }
 {

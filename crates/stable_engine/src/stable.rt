@@ -8,7 +8,7 @@ ghost use Rattle.stable_engine.specs.Answers.{network_lines, LinesList, Lists};
 
 use crate::prefixes::stables_output;
 use net_text::{read_network, split_at_section};
-use stable_search::Limits;
+use stable_search::SearchLimits;
 use std::alloc::{AllocError, Global};
 use text_engines::{Engine, IoStopped, Sink, Source, answer_input, text_output};
 
@@ -21,7 +21,11 @@ fn network_part(input: &[u8]) -> &[u8]
 }
 
 // What is printed for the lines of a network, and the status.
-fn lines_output(alloc: Global, limits: &Limits, text: &[u8]) -> Result<(Vec<u8>, u8), AllocError>
+fn lines_output(
+    alloc: Global,
+    limits: &SearchLimits,
+    text: &[u8],
+) -> Result<(Vec<u8>, u8), AllocError>
     ensures { IfOk result (λ printed. LinesList limits.now (lines_of text.now) (output printed.0.items printed.1)) }
 {
     match read_network(alloc, text) {
@@ -33,7 +37,7 @@ fn lines_output(alloc: Global, limits: &Limits, text: &[u8]) -> Result<(Vec<u8>,
 // What `stable` answers: a network, whose assignments are searched for within these limits.
 #[derive(Drop)]
 struct StableEngine<'a> {
-    limits: &'a Limits,
+    limits: &'a SearchLimits,
 }
 
 impl Engine for StableEngine<'_> {
@@ -52,7 +56,7 @@ impl Engine for StableEngine<'_> {
 /// write failed, and then what was written is a beginning of the text.
 pub fn stable_stream<S: Source, T: Sink>(
     alloc: Global,
-    limits: &Limits,
+    limits: &SearchLimits,
     source: &mut S,
     sink: &mut T,
 ) -> Result<u8, IoStopped>

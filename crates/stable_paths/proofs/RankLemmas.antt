@@ -7,7 +7,7 @@ use Rattle.std.proofs.lemmas.Bool.Decides.{nat_tests}
 use Rattle.std.proofs.lemmas.Bool.{false≢true}
 use Rattle.std.proofs.lemmas.List.Folds.{Any-from_list_any, list_any-from_Any}
 use Rattle.prefix_lanes.specs.Bits.{PrefixView, is_prefix}
-use Rattle.ranked_policy.specs.declared.network.Router.{Router}
+use Rattle.ranked_policy.specs.declared.network.NetRouter.{NetRouter}
 use Rattle.ranked_policy.specs.declared.network.Link.{Link}
 use Rattle.ranked_policy.specs.Plans.{Plan, IsNetwork, IsRouter, IsOrigin, Linked, Joins, numbers}
 use Rattle.ranked_policy.specs.Policies.{Table, IsTableOf, Originates, IsPermitted}
@@ -19,7 +19,7 @@ use Rattle.stable_paths.proofs.TableLemmas.{linked_is}
 
 -- ---- the table of a router
 
-rules_here : (routers : List Router) (u : ℕ) → IsRouter routers u → Any (λ r. (r.asn ≡ u) × (r.rules ≡ rules_of routers u)) routers
+rules_here : (routers : List NetRouter) (u : ℕ) → IsRouter routers u → Any (λ r. (r.asn ≡ u) × (r.rules ≡ rules_of routers u)) routers
 rules_here [] u is = absurd (let l = is.1 in omega (arith, l))
 rules_here (r ∷ rs) u is = at (r.asn == u) refl (λ miss. rules_here rs u (later is miss))
   where

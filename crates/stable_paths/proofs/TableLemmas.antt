@@ -5,7 +5,7 @@ use Rattle.std.specs.List.{AllPairs}
 use Rattle.std.proofs.lemmas.Bool.{cases_order}
 use Rattle.std.proofs.lemmas.List.{length-map, get_or-map}
 use Rattle.prefix_lanes.specs.Bits.{PrefixView}
-use Rattle.ranked_policy.specs.declared.network.Router.{Router}
+use Rattle.ranked_policy.specs.declared.network.NetRouter.{NetRouter}
 use Rattle.ranked_policy.specs.declared.network.Origin.{Origin}
 use Rattle.ranked_policy.specs.declared.network.Link.{Link}
 use Rattle.ranked_policy.specs.Plans.{Plan, IsNetwork, IsRouter, IsOrigin, Linked, numbers}
@@ -48,12 +48,12 @@ one_best law p is paths u a b x y =
 
 -- ---- router by router
 
-module _ (Q : ℕ → Type 0) (routers : List Router) where
-  number_is : (i : ℕ) (r : Router) → i < length routers → r ≡ get_or routers i r → slice_index (numbers routers) i ≡ r.asn
-  number_is i r lt is = get_or-map (λ (x : Router). x.asn) routers i r 0 lt ∙ ap (λ (x : Router). x.asn) (sym is)
+module _ (Q : ℕ → Type 0) (routers : List NetRouter) where
+  number_is : (i : ℕ) (r : NetRouter) → i < length routers → r ≡ get_or routers i r → slice_index (numbers routers) i ≡ r.asn
+  number_is i r lt is = get_or-map (λ (x : NetRouter). x.asn) routers i r 0 lt ∙ ap (λ (x : NetRouter). x.asn) (sym is)
 
   -- one router more
-  pub each_on : (i : ℕ) (r : Router) → i < length routers → r ≡ get_or routers i r → Q r.asn → ((k : ℕ) → k < i → Q (slice_index (numbers routers) k))
+  pub each_on : (i : ℕ) (r : NetRouter) → i < length routers → r ≡ get_or routers i r → Q r.asn → ((k : ℕ) → k < i → Q (slice_index (numbers routers) k))
       → (k : ℕ) → k < i + 1 → Q (slice_index (numbers routers) k)
   each_on i r lt is q inv k below =
       elim (cases_order k i) [
@@ -64,15 +64,15 @@ module _ (Q : ℕ → Type 0) (routers : List Router) where
   -- all of them
   pub each_all : (n : ℕ) → length routers ≤ n → ((k : ℕ) → k < n → Q (slice_index (numbers routers) k)) → (u : ℕ) → IsRouter routers u → Q u
   each_all n le inv u router =
-      let size : length (numbers routers) ≡ length routers = length-map routers (λ (r : Router). r.asn) in
+      let size : length (numbers routers) ≡ length routers = length-map routers (λ (r : NetRouter). r.asn) in
       let at : slice_index (numbers routers) router.0 ≡ u = within (numbers routers) router.0 0 u router.1 ∙ router.2 in
       subst Q at (inv router.0 (omega (arith, size, router.1, le)))
 
   -- those with lower numbers stand before
-  pub each_below : (i : ℕ) (r : Router) → AllPairs (λ u v. u < v) (numbers routers) → i < length routers → r ≡ get_or routers i r → ((k : ℕ) → k < i → Q (slice_index (numbers routers) k))
+  pub each_below : (i : ℕ) (r : NetRouter) → AllPairs (λ u v. u < v) (numbers routers) → i < length routers → r ≡ get_or routers i r → ((k : ℕ) → k < i → Q (slice_index (numbers routers) k))
       → (v : ℕ) → IsRouter routers v → v < r.asn → Q v
   each_below i r rising lt is inv v router less =
-      let size : length (numbers routers) ≡ length routers = length-map routers (λ (x : Router). x.asn) in
+      let size : length (numbers routers) ≡ length routers = length-map routers (λ (x : NetRouter). x.asn) in
       let at : slice_index (numbers routers) router.0 ≡ v = within (numbers routers) router.0 0 v router.1 ∙ router.2 in
       let here = number_is i r lt is in
       elim (cases_order router.0 i) [
@@ -86,20 +86,20 @@ module _ (Q : ℕ → Type 0) (routers : List Router) where
       ]
 
   -- a router of the list is one of the network
-  pub stands : (i : ℕ) (r : Router) → i < length routers → r ≡ get_or routers i r → IsRouter routers r.asn
+  pub stands : (i : ℕ) (r : NetRouter) → i < length routers → r ≡ get_or routers i r → IsRouter routers r.asn
   stands i r lt is =
-      let size : length (numbers routers) ≡ length routers = length-map routers (λ (x : Router). x.asn) in
+      let size : length (numbers routers) ≡ length routers = length-map routers (λ (x : NetRouter). x.asn) in
       let inside : i < length (numbers routers) = omega (arith, size, lt) in
       (i, inside, within (numbers routers) i r.asn 0 inside ∙ number_is i r lt is)
 
 -- the least router that has not its best
-pub moving : EachPolicyIsAnOrder → (p : Problem) → IsProblem p → (paths : ℕ → List ℕ) (routers : List Router) → routers ≡ p.net.routers → (i : ℕ) (r : Router) → i < length routers → r ≡ get_or routers i r
+pub moving : EachPolicyIsAnOrder → (p : Problem) → IsProblem p → (paths : ℕ → List ℕ) (routers : List NetRouter) → routers ≡ p.net.routers → (i : ℕ) (r : NetRouter) → i < length routers → r ≡ get_or routers i r
     → (table : Table) (net : Plan) → net ≡ p.net → IsTableOf net r.asn table → (has best : List ℕ) → IsBestOf p paths table best → (best ≡ has → ⊥) → has ≡ paths r.asn
     → ((k : ℕ) → k < i → IsBest p paths (slice_index (numbers p.net.routers) k) (paths (slice_index (numbers p.net.routers) k)))
     → (field : List ℕ) → field ≡ has → IsMoving p paths r.asn field best
 moving law p is paths routers er i r lt at table net en of has best best_is apart has_is inv field ef =
-    let lt-2 : i < length p.net.routers = subst (λ (rs : List Router). i < length rs) er lt in
-    let at-2 : r ≡ get_or p.net.routers i r = subst (λ (rs : List Router). r ≡ get_or rs i r) er at in
+    let lt-2 : i < length p.net.routers = subst (λ (rs : List NetRouter). i < length rs) er lt in
+    let at-2 : r ≡ get_or p.net.routers i r = subst (λ (rs : List NetRouter). r ≡ get_or rs i r) er at in
     let of-2 : IsTableOf p.net r.asn table = subst (λ (n : Plan). IsTableOf n r.asn table) en of in
     let best-2 : IsBest p paths r.asn best = (table, of-2, best_is) in
     let Q : ℕ → Type 0 = λ v. IsBest p paths v (paths v) in
@@ -114,13 +114,13 @@ moving law p is paths routers er i r lt at table net en of has best best_is apar
     }
 
 -- one router more has its best
-pub settled_on : (p : Problem) (paths : ℕ → List ℕ) (routers : List Router) → routers ≡ p.net.routers → (i : ℕ) (r : Router) → i < length routers → r ≡ get_or routers i r
+pub settled_on : (p : Problem) (paths : ℕ → List ℕ) (routers : List NetRouter) → routers ≡ p.net.routers → (i : ℕ) (r : NetRouter) → i < length routers → r ≡ get_or routers i r
     → (table : Table) (net : Plan) → net ≡ p.net → IsTableOf net r.asn table → (has best : List ℕ) → IsBestOf p paths table best → best ≡ has → has ≡ paths r.asn
     → ((k : ℕ) → k < i → IsBest p paths (slice_index (numbers p.net.routers) k) (paths (slice_index (numbers p.net.routers) k)))
     → (k : ℕ) → k < i + 1 → IsBest p paths (slice_index (numbers p.net.routers) k) (paths (slice_index (numbers p.net.routers) k))
 settled_on p paths routers er i r lt at table net en of has best best_is same has_is inv =
-    let lt-2 : i < length p.net.routers = subst (λ (rs : List Router). i < length rs) er lt in
-    let at-2 : r ≡ get_or p.net.routers i r = subst (λ (rs : List Router). r ≡ get_or rs i r) er at in
+    let lt-2 : i < length p.net.routers = subst (λ (rs : List NetRouter). i < length rs) er lt in
+    let at-2 : r ≡ get_or p.net.routers i r = subst (λ (rs : List NetRouter). r ≡ get_or rs i r) er at in
     let of-2 : IsTableOf p.net r.asn table = subst (λ (n : Plan). IsTableOf n r.asn table) en of in
     each_on (λ v. IsBest p paths v (paths v)) p.net.routers i r lt-2 at-2 (table, of-2, subst (IsBestOf p paths table) (same ∙ has_is) best_is) inv
 
@@ -141,18 +141,18 @@ may_by net is prefix u table of path some b permits = (
 pub may_not : (net : Plan) (prefix : PrefixView) (u : ℕ) (path : List ℕ) → path ≢ [] → (IsRouter net.routers u → ⊥) → MayHave net prefix u path → ⊥
 may_not net prefix u path some absent (inl none) = some none
 may_not net prefix u path some absent (inr x) =
-    let size : length (numbers net.routers) ≡ length net.routers = length-map net.routers (λ (r : Router). r.asn) in
+    let size : length (numbers net.routers) ≡ length net.routers = length-map net.routers (λ (r : NetRouter). r.asn) in
     let at = x.1.2 in
     let inside : at.0 < length (numbers net.routers) = omega (arith, size, at.2) in
-    absent (at.0, inside, get_or-map (λ (r : Router). r.asn) net.routers at.0 at.1 u at.2 ∙ ap (λ (r : Router). r.asn) at.3 ∙ at.4.0)
+    absent (at.0, inside, get_or-map (λ (r : NetRouter). r.asn) net.routers at.0 at.1 u at.2 ∙ ap (λ (r : NetRouter). r.asn) at.3 ∙ at.4.0)
 
 -- the least router that has a path which it does not permit
-pub stray : (p : Problem) → IsProblem p → (paths : ℕ → List ℕ) (routers : List Router) → routers ≡ p.net.routers → (i : ℕ) (r : Router) → i < length routers → r ≡ get_or routers i r
+pub stray : (p : Problem) → IsProblem p → (paths : ℕ → List ℕ) (routers : List NetRouter) → routers ≡ p.net.routers → (i : ℕ) (r : NetRouter) → i < length routers → r ≡ get_or routers i r
     → (u : ℕ) → u ≡ r.asn → (MayHave p.net p.prefix u (paths u) → ⊥) → ((k : ℕ) → k < i → MayHave p.net p.prefix (slice_index (numbers p.net.routers) k) (paths (slice_index (numbers p.net.routers) k)))
     → IsLeastWithout p (λ v. MayHave p.net p.prefix v (paths v)) r.asn
 stray p is paths routers er i r lt at u eu not inv =
-    let lt-2 : i < length p.net.routers = subst (λ (rs : List Router). i < length rs) er lt in
-    let at-2 : r ≡ get_or p.net.routers i r = subst (λ (rs : List Router). r ≡ get_or rs i r) er at in
+    let lt-2 : i < length p.net.routers = subst (λ (rs : List NetRouter). i < length rs) er lt in
+    let at-2 : r ≡ get_or p.net.routers i r = subst (λ (rs : List NetRouter). r ≡ get_or rs i r) er at in
     let Q : ℕ → Type 0 = λ v. MayHave p.net p.prefix v (paths v) in
     record {
       router = stands Q p.net.routers i r lt-2 at-2;
@@ -160,12 +160,12 @@ stray p is paths routers er i r lt at u eu not inv =
       below = each_below Q p.net.routers i r is.network.plan.rising lt-2 at-2 inv;
     }
 
-pub permitted_on : (p : Problem) (paths : ℕ → List ℕ) (routers : List Router) → routers ≡ p.net.routers → (i : ℕ) (r : Router) → i < length routers → r ≡ get_or routers i r
+pub permitted_on : (p : Problem) (paths : ℕ → List ℕ) (routers : List NetRouter) → routers ≡ p.net.routers → (i : ℕ) (r : NetRouter) → i < length routers → r ≡ get_or routers i r
     → (u : ℕ) → u ≡ r.asn → MayHave p.net p.prefix u (paths u) → ((k : ℕ) → k < i → MayHave p.net p.prefix (slice_index (numbers p.net.routers) k) (paths (slice_index (numbers p.net.routers) k)))
     → (k : ℕ) → k < i + 1 → MayHave p.net p.prefix (slice_index (numbers p.net.routers) k) (paths (slice_index (numbers p.net.routers) k))
 permitted_on p paths routers er i r lt at u eu may inv =
-    let lt-2 : i < length p.net.routers = subst (λ (rs : List Router). i < length rs) er lt in
-    let at-2 : r ≡ get_or p.net.routers i r = subst (λ (rs : List Router). r ≡ get_or rs i r) er at in
+    let lt-2 : i < length p.net.routers = subst (λ (rs : List NetRouter). i < length rs) er lt in
+    let at-2 : r ≡ get_or p.net.routers i r = subst (λ (rs : List NetRouter). r ≡ get_or rs i r) er at in
     let Q : ℕ → Type 0 = λ v. MayHave p.net p.prefix v (paths v) in
     each_on Q p.net.routers i r lt-2 at-2 (subst Q eu may) inv
 

@@ -3,8 +3,8 @@
 use Rattle.std.specs.Prelude.{ℕ, ◌≡◌, ◌==◌, Bool, List, [], ◌∷◌, if◌then◌else◌}
 use Rattle.std.specs.List.{list_any}
 use Rattle.prefix_lanes.specs.Bits.{PrefixView, is_prefix}
-use Rattle.ranked_policy.specs.declared.network.Router.{Router}
-use Rattle.ranked_policy.specs.declared.network.Rule.{Rule}
+use Rattle.ranked_policy.specs.declared.network.NetRouter.{NetRouter}
+use Rattle.ranked_policy.specs.declared.network.RankRule.{RankRule}
 use Rattle.ranked_policy.specs.declared.network.Link.{Link}
 use Rattle.ranked_policy.specs.Plans.{Plan, IsNetwork, IsRouter, IsOrigin, numbers}
 use Rattle.ranked_policy.specs.Policies.{Table}
@@ -15,7 +15,7 @@ use Rattle.stable_paths.specs.Stable.{Problem, IsProblem, IsBest}
 use Rattle.stable_paths.specs.Promises.{Chooses}
 
 -- the rules of a router
-abbrev pub rules_of : List Router → ℕ → List Rule
+abbrev pub rules_of : List NetRouter → ℕ → List RankRule
 rules_of [] u = []
 rules_of (r ∷ rs) u = if r.asn == u then r.rules else rules_of rs u
 

@@ -2,7 +2,7 @@
 use Rattle.std.specs.Prelude.{ℕ, ◌≡◌, ◌==◌, true, false, List, [], ◌∷◌, if◌then◌else◌}
 use Rattle.prefix_lanes.specs.Bits.{PrefixView}
 use Rattle.bgp_values.specs.declared.width.Width.TheVariants.{Two}
-use Rattle.ranked_policy.specs.declared.network.Rule.{Rule}
+use Rattle.ranked_policy.specs.declared.network.RankRule.{RankRule}
 use Rattle.ranked_policy.specs.Plans.{Plan}
 use Rattle.stable_paths.specs.ByRank.{best_by_rank}
 
@@ -10,7 +10,7 @@ use Rattle.stable_paths.specs.ByRank.{best_by_rank}
 abbrev pub ten : PrefixView
 ten = record { addr = 167772160; len = 8 }
 
-abbrev pub ranks : List (List ℕ) → List Rule
+abbrev pub ranks : List (List ℕ) → List RankRule
 ranks paths = record { prefix = ten; paths = paths } ∷ []
 
 abbrev pub disagree : Plan

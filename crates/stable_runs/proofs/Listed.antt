@@ -7,7 +7,7 @@ use Rattle.ranked_policy.specs.Plans.{IsRouter, IsOrigin}
 use Rattle.ranked_policy.proofs.PlaceLemmas.{one_origin}
 use Rattle.stable_paths.specs.Stable.{IsStable}
 use Rattle.stable_search.specs.declared.every.Every.{Every}
-use Rattle.stable_search.specs.declared.every.Part.{Part}
+use Rattle.stable_search.specs.declared.every.Component.{Component}
 use Rattle.stable_search.specs.Every.{HasChoice, IsEveryStable}
 use Rattle.run_model.specs.Offers.{Settled}
 use Rattle.snap_marker.specs.Recordings.{RouterPart}
@@ -44,7 +44,7 @@ is_in_none paths every none listed =
 pub same_in_one : (paths others : ℕ → List ℕ) (every : Every) → ListsOne every → AreListed paths every → AreListed others every
     → (u : ℕ) → Any (λ part. Contains part.routers u) every.parts → paths u ≡ others u
 same_in_one paths others every one mine theirs u at =
-    let single : length at.1.choices ≡ 1 = subst (λ (part : Part). length part.choices ≡ 1) at.3 (one at.0 at.1 at.2) in
+    let single : length at.1.choices ≡ 1 = subst (λ (part : Component). length part.choices ≡ 1) at.3 (one at.0 at.1 at.2) in
     let a : HasChoice paths at.1 = subst (HasChoice paths) at.3 (mine at.0 at.1 at.2) in
     let b : HasChoice others at.1 = subst (HasChoice others) at.3 (theirs at.0 at.1 at.2) in
     same_at paths others at.1.routers u (both_first at.1.choices (map paths at.1.routers) (map others at.1.routers) single a b) at.4

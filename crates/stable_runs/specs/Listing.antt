@@ -16,7 +16,7 @@ use Rattle.world_core.specs.declared.schedule.Event.{Event}
 use Rattle.world_core.specs.World.{World, new_world, played}
 use Rattle.world_core.specs.Keeping.{HoldsOfItsRuns}
 use Rattle.worker_loop.specs.declared.chore.Chore.{Chore}
-use Rattle.worker_loop.specs.declared.journal.Entry.{Entry}
+use Rattle.worker_loop.specs.declared.journal.WorkerEvent.{WorkerEvent}
 use Rattle.net_workers.specs.declared.record.Worked.{Worked}
 use Rattle.net_workers.specs.Ran.{Passed, IsRecord}
 use Rattle.net_workers.specs.Runs.{InTurn, KeepsPromises}
@@ -66,6 +66,6 @@ WorldsSettleInListed =
 -- the run of a record of threads, which keeps the promises of runs, settles in listed assignments
 abbrev pub RecordsSettleInListed : {G : Type 0} → (G → List Chore) → Type 0
 RecordsSettleInListed {G} given =
-    (plan : Plan) (turns : ℕ) (p : Passed) (workers : List (Worked G)) (c : CollectorView) (gathered : List Entry)
+    (plan : Plan) (turns : ℕ) (p : Passed) (workers : List (Worked G)) (c : CollectorView) (gathered : List WorkerEvent)
     → IsRecord given plan turns p workers c gathered → InTurn p → (g : Setting) → g.net ≡ plan → IsSetting g
     → (keeps : KeepsPromises g p workers c gathered) × SettlesInListed g keeps.run.state

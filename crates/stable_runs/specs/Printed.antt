@@ -2,7 +2,7 @@
 use Rattle.std.specs.Prelude.{ℕ, ◌≡◌, Bool, true, List, Ok}
 use Rattle.std.specs.List.{Contains}
 use Rattle.stable_search.specs.declared.every.Every.{Every}
-use Rattle.stable_search.specs.declared.limits.Limits.{Limits}
+use Rattle.stable_search.specs.declared.limits.SearchLimits.{SearchLimits}
 use Rattle.run_model.specs.Offers.{Settled}
 use Rattle.router_model.specs.Settings.{Setting, IsSetting, names}
 use Rattle.router_runs.specs.Snapshots.{AsOriginated}
@@ -18,7 +18,8 @@ use Rattle.stable_runs.specs.Listing.{AreListed}
 abbrev pub PrintedSettledAreListed : Type 0
 PrintedSettledAreListed =
     (g : Setting) (set : IsSetting g) (w : World) (out : Output) (report : IsReport g w out)
-    (limits : Limits) (text : List ℕ) (known : Bool) (answered : AreAnswered limits g.net g.net.origins text known)
+    (limits : SearchLimits) (text : List ℕ) (known : Bool)
+    (answered : AreAnswered limits g.net g.net.origins text known)
     (s : ℕ) (settled : outcome g.net w.made s ≡ Settled) (answer : Answer) → Contains answered.answers answer
     → (every : Every) → answer.found ≡ Ok every
     → names g.net.origins answer.prefix ≡ true → AsOriginated g answer.prefix (report.settled set s settled).parts true

@@ -8,7 +8,7 @@ use Rattle.stable_paths.specs.ByRank.{best_by_rank, BestByRankIsBest}
 use Rattle.stable_paths.specs.Promises.{NoOriginNoPath}
 use Rattle.stable_paths.specs.Stable.{IsBest}
 use Rattle.stable_paths.proofs.TableLemmas.{linked_is}
-use Rattle.stable_search.specs.declared.every.Part.{Part}
+use Rattle.stable_search.specs.declared.every.Component.{Component}
 use Rattle.stable_search.specs.Counting.{what_all_have, StableAreCounted, NoneWithoutOrigin}
 use Rattle.stable_search.specs.Every.{HasChoice, IsPart, number_of}
 use Rattle.stable_search.proofs.PickLemmas.{pairs_append}
@@ -100,40 +100,40 @@ once_each {X} (c ∷ cs) rests once apart =
 
 -- ---- combinations
 
-combinations : List Part → List (List (List (List ℕ)))
+combinations : List Component → List (List (List (List ℕ)))
 combinations [] = [] ∷ []
 combinations (part ∷ parts) = with_each part.choices (combinations parts)
 
-count_is : (parts : List Part) → length (combinations parts) ≡ number_of parts
+count_is : (parts : List Component) → length (combinations parts) ≡ number_of parts
 unfolding combinations
 count_is [] = refl
 count_is (part ∷ parts) = length_each part.choices (combinations parts) ∙ ap (λ (n : ℕ). length part.choices * n) (count_is parts)
 
-first_part : (P : Part → Type 0) (part : Part) (parts : List Part) → All P (part ∷ parts) → P part
+first_part : (P : Component → Type 0) (part : Component) (parts : List Component) → All P (part ∷ parts) → P part
 first_part P part parts all = all 0 part (omega arith)
 
-other_parts : (P : Part → Type 0) (part : Part) (parts : List Part) → All P (part ∷ parts) → All P parts
+other_parts : (P : Component → Type 0) (part : Component) (parts : List Component) → All P (part ∷ parts) → All P parts
 other_parts P part parts all k d lt = all (suc k) d (omega (arith, lt))
 
-all_parts : (P : Part → Type 0) (part : Part) (parts : List Part) → P part → All P parts → All P (part ∷ parts)
+all_parts : (P : Component → Type 0) (part : Component) (parts : List Component) → P part → All P parts → All P (part ∷ parts)
 all_parts P part parts one all zero d lt = one
 all_parts P part parts one all (suc k) d lt = all k d (omega (arith, lt))
 
 one_pairs : {X : Type 0} (x : X) → AllPairs (λ a b. a ≢ b) (x ∷ [])
 one_pairs x i j d lt inside = absurd (omega (arith, lt, inside))
 
-combined_once : (parts : List Part) → All IsPart parts → AllPairs (λ a b. a ≢ b) (combinations parts)
+combined_once : (parts : List Component) → All IsPart parts → AllPairs (λ a b. a ≢ b) (combinations parts)
 unfolding combinations
 combined_once [] all = one_pairs []
 combined_once (part ∷ parts) all = once_each part.choices (combinations parts) (first_part IsPart part parts all).once (combined_once parts (other_parts IsPart part parts all))
 
-chosen_in : (paths : ℕ → List ℕ) (parts : List Part) → All (HasChoice paths) parts → Contains (combinations parts) (what_all_have paths parts)
+chosen_in : (paths : ℕ → List ℕ) (parts : List Component) → All (HasChoice paths) parts → Contains (combinations parts) (what_all_have paths parts)
 unfolding combinations
 chosen_in paths [] all = (0, omega arith, refl)
 chosen_in paths (part ∷ parts) all =
     in_each part.choices (combinations parts) (map paths part.routers) (what_all_have paths parts) (first_part (HasChoice paths) part parts all) (chosen_in paths parts (other_parts (HasChoice paths) part parts all))
 
-in_chosen : (paths : ℕ → List ℕ) (parts : List Part) → Contains (combinations parts) (what_all_have paths parts) → All (HasChoice paths) parts
+in_chosen : (paths : ℕ → List ℕ) (parts : List Component) → Contains (combinations parts) (what_all_have paths parts) → All (HasChoice paths) parts
 unfolding combinations
 in_chosen paths [] c = λ k d lt. absurd (omega (arith, lt))
 in_chosen paths (part ∷ parts) c =
@@ -150,7 +150,7 @@ path_in [] choice u other = other
 path_in (v ∷ vs) [] u other = other
 path_in (v ∷ vs) (path ∷ paths) u other = cond (v == u) path (path_in vs paths u other)
 
-paths_of : List Part → List (List (List ℕ)) → ℕ → List ℕ
+paths_of : List Component → List (List (List ℕ)) → ℕ → List ℕ
 paths_of [] one u = []
 paths_of (part ∷ parts) [] u = []
 paths_of (part ∷ parts) (choice ∷ rest) u = path_in part.routers choice u (paths_of parts rest u)
@@ -192,18 +192,18 @@ not_in (v ∷ vs) (path ∷ paths) u other not =
     ap (λ (b : Bool). cond b path (path_in vs paths u other)) (ne_eqb v u (λ e. not (0, omega arith, e)))
     ∙ not_in vs paths u other (λ c. not (suc c.0, omega (arith, c.1), c.2))
 
-parts_same : (f g : ℕ → List ℕ) (parts : List Part) → ((u : ℕ) → (k : ℕ) (d : Part) → k < length parts → Contains (get_or parts k d).routers u → f u ≡ g u) → what_all_have f parts ≡ what_all_have g parts
+parts_same : (f g : ℕ → List ℕ) (parts : List Component) → ((u : ℕ) → (k : ℕ) (d : Component) → k < length parts → Contains (get_or parts k d).routers u → f u ≡ g u) → what_all_have f parts ≡ what_all_have g parts
 parts_same f g [] same = refl
 parts_same f g (part ∷ parts) same =
     let here : map f part.routers ≡ map g part.routers = map_same f g part.routers (λ u c. same u 0 part (omega arith) c) in
     let later : what_all_have f parts ≡ what_all_have g parts = parts_same f g parts (λ u k d lt c. same u (suc k) d (omega (arith, lt)) c) in
     ap (λ (x : List (List ℕ)). x ∷ what_all_have f parts) here ∙ ap (λ (xs : List (List (List ℕ))). map g part.routers ∷ xs) later
 
-abbrev AreApart : List Part → Type 0
+abbrev AreApart : List Component → Type 0
 AreApart parts = AllPairs (λ part later. (u : ℕ) → Contains part.routers u → Contains later.routers u → ⊥) parts
 
 -- a combination is what all have in its assignment
-combined : (parts : List Part) → All IsPart parts → AreApart parts → (one : List (List (List ℕ))) → Contains (combinations parts) one → what_all_have (paths_of parts one) parts ≡ one
+combined : (parts : List Component) → All IsPart parts → AreApart parts → (one : List (List (List ℕ))) → Contains (combinations parts) one → what_all_have (paths_of parts one) parts ≡ one
 unfolding combinations paths_of
 combined [] all apart one (zero, lt, e) = e
 combined [] all apart one (suc k, lt, e) = absurd (omega (arith, lt))

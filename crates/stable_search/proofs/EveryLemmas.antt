@@ -11,7 +11,7 @@ use Rattle.stable_paths.specs.Stable.{Problem, IsInstance, IsStable}
 use Rattle.ranked_policy.proofs.OneTable.{one_table}
 use Rattle.stable_paths.proofs.TableLemmas.{linked_is}
 use Rattle.stable_search.specs.declared.every.Every.{Every}
-use Rattle.stable_search.specs.declared.every.Part.{Part}
+use Rattle.stable_search.specs.declared.every.Component.{Component}
 use Rattle.stable_search.specs.declared.group.Group.{Group}
 use Rattle.stable_search.specs.declared.seat.Seat.{Seat}
 use Rattle.stable_search.specs.declared.way.Way.{Way}
@@ -243,7 +243,7 @@ module _ (p : Problem) (is : IsInstance p) (seats : List Seat) (at : map (λ (s 
 
 -- ---- a part
 
-module _ (seats : List Seat) (sets : List ℕ) (values : AreValues seats sets) (group : Group) (is : IsGroup sets group) (part : Part) (of : IsPartOf seats group part) where
+module _ (seats : List Seat) (sets : List ℕ) (values : AreValues seats sets) (group : Group) (is : IsGroup sets group) (part : Component) (of : IsPartOf seats group part) where
   seat_of : (k : ℕ) → k < length group.places → (s : Seat) × StandsAt seats (get_or group.places k 0) s
   seat_of k lt = stands seats (get_or group.places k 0) (let inside = is.inside k 0 lt in omega (arith, inside, values.0))
 
@@ -436,14 +436,14 @@ every p is law seats at each ways over sets values groups fall found of = record
     group_at : (g : ℕ) → g < length groups → (group : Group) × StandsAt groups g group
     group_at g lt = stands groups g lt
 
-    part_at : (g : ℕ) → g < length groups → (part : Part) × StandsAt found.parts g part
+    part_at : (g : ℕ) → g < length groups → (part : Component) × StandsAt found.parts g part
     part_at g lt = stands found.parts g (omega (arith, lt, of.size))
 
     once : (i : ℕ) (s : Seat) → StandsAt seats i s → AllPairs (λ path later. path ≢ later) s.values.items
     once i s st = (here (IsSeat p) seats i s each st).distinct
 
     -- the seat of a part's least router
-    least_of : (group : Group) (part : Part) → IsGroup sets group → IsPartOf seats group part → (s : Seat) × StandsAt seats (get_or group.places 0 0) s × (get_or part.routers 0 0 ≡ s.router)
+    least_of : (group : Group) (part : Component) → IsGroup sets group → IsPartOf seats group part → (s : Seat) × StandsAt seats (get_or group.places 0 0) s × (get_or part.routers 0 0 ≡ s.router)
     least_of group part x o =
         let s = stands seats (get_or group.places 0 0) (let inside = x.inside 0 0 x.some in omega (arith, inside, values.0)) in
         (s.0, s.1, o.routers.each 0 s.0 x.some s.1)

@@ -6,7 +6,7 @@ use Rattle.std.specs.List.{All, Contains}
 use Rattle.std.proofs.lemmas.Bool.{cases_order, cases_lt}
 use Rattle.std.proofs.lemmas.List.{length-map, get_or-map, length-set, get_or-set_same, get_or-set_other}
 use Rattle.ranked_policy.specs.declared.limits.TheConstants.{LONGEST_PATH}
-use Rattle.ranked_policy.specs.declared.network.Router.{Router}
+use Rattle.ranked_policy.specs.declared.network.NetRouter.{NetRouter}
 use Rattle.ranked_policy.specs.Choosing.{chosen_permits, chosen_prefers}
 use Rattle.ranked_policy.specs.Paths.{BeginsWith}
 use Rattle.ranked_policy.specs.Plans.{Plan, IsRouter, Linked, numbers}
@@ -28,8 +28,8 @@ use Rattle.stable_search.proofs.PlaceLemmas.{stands, here}
 pub router_of : (net : Plan) (u : ℕ) (t : Table) → IsTableOf net u t → IsRouter net.routers u
 router_of net u t of =
     let x = of.2 in
-    let size = length-map net.routers (λ (r : Router). r.asn) in
-    (x.0, omega (arith, size, x.2), get_or-map (λ (r : Router). r.asn) net.routers x.0 x.1 u x.2 ∙ ap (λ (r : Router). r.asn) x.3 ∙ x.4.0)
+    let size = length-map net.routers (λ (r : NetRouter). r.asn) in
+    (x.0, omega (arith, size, x.2), get_or-map (λ (r : NetRouter). r.asn) net.routers x.0 x.1 u x.2 ∙ ap (λ (r : NetRouter). r.asn) x.3 ∙ x.4.0)
 
 option_cases : {X : Type 0} (o : Option X) → (o ≡ None) ⊎ ((x : X) × (o ≡ Some x))
 option_cases None = inl refl

@@ -6,9 +6,9 @@ use Rattle.std.proofs.lemmas.List.{length-map, get_or-map, get_or_default, same_
 use Rattle.ranked_policy.specs.Plans.{Linked, IsRouter, numbers}
 use Rattle.ranked_policy.specs.Policies.{IsTableOf}
 use Rattle.stable_paths.specs.Stable.{Problem, IsInstance}
-use Rattle.stable_search.specs.declared.every.Part.{Part}
+use Rattle.stable_search.specs.declared.every.Component.{Component}
 use Rattle.stable_search.specs.declared.group.Group.{Group}
-use Rattle.stable_search.specs.declared.limits.Limits.{Limits}
+use Rattle.stable_search.specs.declared.limits.SearchLimits.{SearchLimits}
 use Rattle.stable_search.specs.declared.refusal.SearchError.{SearchError}
 use Rattle.stable_search.specs.declared.refusal.SearchError.TheVariants as refusals
 use Rattle.stable_search.specs.declared.seat.Seat.{Seat}
@@ -163,7 +163,7 @@ module _ (p : Problem) (is : IsInstance p) (law : StableIsFitting) (seats : List
         }
 
   -- the refusal of a search of places is one of routers
-  pub places_refused : (limits : Limits) (why : SearchError) → RefusesPlaces seats ways sets limits.most why → IsRefusal p limits why
+  pub places_refused : (limits : SearchLimits) (why : SearchError) → RefusesPlaces seats ways sets limits.most why → IsRefusal p limits why
   places_refused limits (refusals.TooManyPaths router) r = absurd r
   places_refused limits (refusals.TooManyChoices routers) r = (some_routers r.0 routers r.1 r.2, more_choices r.0 routers r.1 r.2 limits.most r.3)
   places_refused limits (refusals.TooManySteps routers) r = some_routers r.0 routers r.1 r.2
@@ -171,20 +171,20 @@ module _ (p : Problem) (is : IsInstance p) (law : StableIsFitting) (seats : List
 
 -- ---- other refusals
 
-pub paths_refused : (p : Problem) (limits : Limits) (why : SearchError) → IsPathsRefusal p why → IsRefusal p limits why
+pub paths_refused : (p : Problem) (limits : SearchLimits) (why : SearchError) → IsPathsRefusal p why → IsRefusal p limits why
 paths_refused p limits (refusals.TooManyPaths router) r = r
 paths_refused p limits (refusals.TooManyChoices routers) r = absurd r
 paths_refused p limits (refusals.TooManySteps routers) r = absurd r
 paths_refused p limits refusals.Memory r = tt
 
-pub memory_refused : {T : Type 0} (p : Problem) (limits : Limits) (r : Result T SearchError) → IsErrAnd r (λ why. why ≡ refusals.Memory) → IfErr r (IsRefusal p limits)
+pub memory_refused : {T : Type 0} (p : Problem) (limits : SearchLimits) (r : Result T SearchError) → IsErrAnd r (λ why. why ≡ refusals.Memory) → IfErr r (IsRefusal p limits)
 memory_refused p limits (Ok x) h = tt
 memory_refused p limits (Err why) h = subst (IsRefusal p limits) (sym h) tt
 
 -- ---- how many choices
 
 -- parts have as many choices as their groups have picks
-pub few_parts : (seats : List Seat) (groups : List Group) (parts : List Part) (most : ℕ) → ArePartsOf seats groups parts → All (λ group. length group.picks ≤ most) groups → AreFew most parts
+pub few_parts : (seats : List Seat) (groups : List Group) (parts : List Component) (most : ℕ) → ArePartsOf seats groups parts → All (λ group. length group.picks ≤ most) groups → AreFew most parts
 few_parts seats groups parts most of few g d lt =
     let group = stands groups g (omega (arith, lt, of.size)) in
     let part = get_or parts g d in

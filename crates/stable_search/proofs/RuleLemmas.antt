@@ -5,7 +5,7 @@ use Rattle.std.proofs.lemmas.Bool.{cases_order, cases_lt}
 use Rattle.std.proofs.lemmas.List.{get_or_default}
 use Rattle.std.proofs.lemmas.List.Elements.{All-contains}
 use Rattle.ranked_policy.specs.declared.limits.TheConstants.{MOST_PATHS}
-use Rattle.ranked_policy.specs.declared.network.Rule.{Rule}
+use Rattle.ranked_policy.specs.declared.network.RankRule.{RankRule}
 use Rattle.ranked_policy.specs.Plans.{AreRanked}
 use Rattle.ranked_policy.specs.Policies.{Table, IsTable, IsTableOf, Originates, IsRuleFor, NoRuleFor, IsPermitted}
 use Rattle.ranked_policy.specs.Promises.{OneRule}
@@ -86,7 +86,7 @@ module _ (one : OneRule) (p : Problem) (is : IsInstance p) (router : ℕ) (table
 
   module _ (ruled : NoRuleFor table.rules p.prefix → ⊥) where
     abbrev IsByRule : List ℕ → Type 0
-    IsByRule path = (path ≡ []) ⊎ ((rule : Rule) × IsRuleFor table.rules p.prefix rule × Contains rule.paths path)
+    IsByRule path = (path ≡ []) ⊎ ((rule : RankRule) × IsRuleFor table.rules p.prefix rule × Contains rule.paths path)
 
     listed_by : (path : List ℕ) → IsPermitted table p.prefix path → IsByRule path
     listed_by path (inl own) = absurd (other own.0)
@@ -96,7 +96,7 @@ module _ (one : OneRule) (p : Problem) (is : IsInstance p) (router : ℕ) (table
     by_rule path (inl own) = absurd (other own.0)
     by_rule path (inr x) = elim x.1 [ inl none ↦ inl none | inr on ↦ listed_by path on.0 ]
 
-    some_rule : (rule : Rule) × IsRuleFor table.rules p.prefix rule
+    some_rule : (rule : RankRule) × IsRuleFor table.rules p.prefix rule
     some_rule = elim (by_rule (get_or paths 0 []) (may 0 [] (omega (arith, many)))) [
       | inr by ↦ (by.0, by.1)
       | inl none ↦ elim (by_rule (get_or paths 1 []) (may 1 [] (omega (arith, many)))) [
@@ -110,14 +110,14 @@ module _ (one : OneRule) (p : Problem) (is : IsInstance p) (router : ℕ) (table
       | inl none ↦ (0, omega arith, sym none)
       | inr by ↦
           let same : by.0 ≡ some_rule.0 = one table holds p.prefix by.0 some_rule.0 by.1 some_rule.1 in
-          let c : Contains some_rule.0.paths (get_or paths k d) = subst (λ (r : Rule). Contains r.paths (get_or paths k d)) same by.2 in
+          let c : Contains some_rule.0.paths (get_or paths k d) = subst (λ (r : RankRule). Contains r.paths (get_or paths k d)) same by.2 in
           (suc c.0, omega (arith, c.1), c.2)
     ]
 
     too_many_for_it : ⊥
     too_many_for_it =
         let few : length some_rule.0.paths ≤ MOST_PATHS =
-        (All-contains (λ (r : Rule). AreRanked holds.all table.router r.paths) table.rules some_rule.0 holds.rules.ranked some_rule.1.listed).few in
+        (All-contains (λ (r : RankRule). AreRanked holds.all table.router r.paths) table.rules some_rule.0 holds.rules.ranked some_rule.1.listed).few in
         let le = no_more paths ([] ∷ some_rule.0.paths) once in_rule in
         omega (arith, few, le, many)
 

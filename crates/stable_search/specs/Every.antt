@@ -3,15 +3,15 @@ use Rattle.std.specs.Prelude.{ℕ, ◌≡◌, ◌≢◌, ◌<◌, ◌≤◌, ◌
 use Rattle.std.specs.List.{All, AllPairs, Any, Contains}
 use Rattle.ranked_policy.specs.Plans.{IsRouter}
 use Rattle.stable_paths.specs.Stable.{Problem, IsStable}
-use Rattle.stable_search.specs.declared.every.Part.{Part}
+use Rattle.stable_search.specs.declared.every.Component.{Component}
 use Rattle.stable_search.specs.declared.every.Every.{Every}
 
 -- the routers of the part have one of its choices
-abbrev pub HasChoice : (ℕ → List ℕ) → Part → Type 0
+abbrev pub HasChoice : (ℕ → List ℕ) → Component → Type 0
 HasChoice paths part = Contains part.choices (map paths part.routers)
 
 -- routers, rising, with choices of a path for each, none listed twice
-pub record IsPart (part : Part) : Type 0 where
+pub record IsPart (part : Component) : Type 0 where
   pub some : 0 < length part.routers
   pub rising : AllPairs (λ u v. u < v) part.routers
   pub whole : All (λ choice. length choice ≡ length part.routers) part.choices
@@ -27,7 +27,7 @@ pub record IsEveryStable (p : Problem) (every : Every) : Type 0 where
   pub order : AllPairs (λ part later. slice_index part.routers 0 < slice_index later.routers 0) every.parts
 
 -- the product of the numbers of choices
-abbrev pub number_of : List Part → ℕ
+abbrev pub number_of : List Component → ℕ
 number_of [] = 1
 number_of (part ∷ parts) = length part.choices * number_of parts
 

@@ -2,7 +2,7 @@
 use Rattle.std.specs.Prelude.{ℕ, ◌≡◌, ◌≢◌, ◌↔◌, ◌<◌, ⊤, List, [], length, map, slice_index, slice_index_or}
 use Rattle.std.specs.List.{All, AllPairs, Any, Contains}
 use mathlib.Core.Logic.{◌⊎◌}
-use Rattle.stable_search.specs.declared.every.Part.{Part}
+use Rattle.stable_search.specs.declared.every.Component.{Component}
 use Rattle.stable_search.specs.declared.group.Group.{Group}
 use Rattle.stable_search.specs.declared.refusal.SearchError.{SearchError}
 use Rattle.stable_search.specs.declared.refusal.SearchError.TheVariants as refusals
@@ -71,15 +71,15 @@ pub record AreRoutersAt (seats : List Seat) (places routers : List ℕ) : Type 0
       → slice_index routers k ≡ seat.router
 
 -- the part of a group
-pub record IsPartOf (seats : List Seat) (group : Group) (part : Part) : Type 0 where
+pub record IsPartOf (seats : List Seat) (group : Group) (part : Component) : Type 0 where
   pub routers : AreRoutersAt seats group.places part.routers
   pub count : length part.choices ≡ length group.picks
   pub shown : (j : ℕ) → j < length group.picks
       → IsShown seats group.places (slice_index_or group.picks j []) (slice_index_or part.choices j [])
 
-pub record ArePartsOf (seats : List Seat) (groups : List Group) (parts : List Part) : Type 0 where
+pub record ArePartsOf (seats : List Seat) (groups : List Group) (parts : List Component) : Type 0 where
   pub size : length parts ≡ length groups
-  pub each : (g : ℕ) (group : Group) (part : Part) → StandsAt groups g group → StandsAt parts g part
+  pub each : (g : ℕ) (group : Group) (part : Component) → StandsAt groups g group → StandsAt parts g part
       → IsPartOf seats group part
 
 -- ---- refusals

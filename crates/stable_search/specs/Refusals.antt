@@ -4,14 +4,14 @@ use Rattle.std.specs.List.{All, AllPairs, Contains}
 use Rattle.ranked_policy.specs.Plans.{IsRouter, Linked}
 use Rattle.ranked_policy.specs.Policies.{Table, IsTableOf, Originates, NoRuleFor}
 use Rattle.stable_paths.specs.Stable.{Problem}
-use Rattle.stable_search.specs.declared.every.Part.{Part}
-use Rattle.stable_search.specs.declared.limits.Limits.{Limits}
+use Rattle.stable_search.specs.declared.every.Component.{Component}
+use Rattle.stable_search.specs.declared.limits.SearchLimits.{SearchLimits}
 use Rattle.stable_search.specs.declared.refusal.SearchError.{SearchError}
 use Rattle.stable_search.specs.declared.refusal.SearchError.TheVariants as refusals
 use Rattle.stable_search.specs.Fits.{MayStand, FitsAt}
 
 -- no part has more choices than so many
-abbrev pub AreFew : ℕ → List Part → Type 0
+abbrev pub AreFew : ℕ → List Component → Type 0
 AreFew most parts = All (λ part. length part.choices ≤ most) parts
 
 -- routers of the problem, rising, at least one
@@ -60,7 +60,7 @@ IsPathsRefusal p (refusals.TooManySteps routers) = ⊥
 IsPathsRefusal p refusals.Memory = ⊤
 
 -- what a refusal says of a problem, under these limits
-abbrev pub IsRefusal : Problem → Limits → SearchError → Type 0
+abbrev pub IsRefusal : Problem → SearchLimits → SearchError → Type 0
 IsRefusal p limits (refusals.TooManyPaths router) = MayHaveTooManyPaths p router
 IsRefusal p limits (refusals.TooManyChoices routers) = AreSomeRouters p routers × HasMoreChoices p limits.most routers
 IsRefusal p limits (refusals.TooManySteps routers) = AreSomeRouters p routers

@@ -3,15 +3,15 @@
 ghost use Rattle.std.specs.Prelude.{◌<◌, ◌*◌, ℕ};
 ghost use Rattle.stable_search.specs.Every.{number_of, IsCount};
 
-use ranked_policy::{Asn, Items, Path};
+use ranked_policy::{Asn, NetItems, Path};
 
 /// Routers whose paths depend on each other, and on those of no other router.
 #[derive(Debug, Drop)]
-pub struct Part {
+pub struct Component {
     /// The routers, by rising number.
-    pub routers: Items<Asn>,
+    pub routers: NetItems<Asn>,
     /// Their choices: each has a path for every router of the part, in the order of the routers.
-    pub choices: Items<Items<Path>>,
+    pub choices: NetItems<NetItems<Path>>,
 }
 
 /// All stable assignments of an instance: any combination of one choice from each part. Each router
@@ -19,7 +19,7 @@ pub struct Part {
 #[derive(Debug, Drop)]
 pub struct Every {
     /// The parts, by their least routers.
-    pub parts: Items<Part>,
+    pub parts: NetItems<Component>,
 }
 
 impl Every {

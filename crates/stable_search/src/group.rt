@@ -8,7 +8,7 @@ ghost use Rattle.stable_search.specs.Picks.{AreWithin, AreAll, Narrows};
 ghost use Rattle.stable_search.specs.declared.way.Way.{Way};
 
 use crate::keeping::keep_seen;
-use crate::limits::Limits;
+use crate::limits::SearchLimits;
 use crate::narrowing::narrow_all;
 use crate::parting::{all_values_at, labels_of, places_with, sets_with, ways_with};
 use crate::refusal::SearchError;
@@ -16,16 +16,16 @@ use crate::searching::search;
 use crate::seat::{Seat, routers_at};
 use crate::stop::Stop;
 use crate::way::Way;
-use ranked_policy::Items;
+use ranked_policy::NetItems;
 use std::alloc::Global;
 
 /// Places, and the picks of values for them.
 #[derive(Debug, Drop)]
 pub(crate) struct Group {
     /// The places.
-    pub(crate) places: Items<usize>,
+    pub(crate) places: NetItems<usize>,
     /// The picks: each has a value for every place, in the order of the places.
-    pub(crate) picks: Items<Items<usize>>,
+    pub(crate) picks: NetItems<NetItems<usize>>,
 }
 
 // The refusal of a search that stopped, with the routers at the places that were searched.
@@ -50,8 +50,8 @@ fn searched(
     places: &[usize],
     ways: &[Way],
     sets: Vec<u64>,
-    limits: &Limits,
-) -> Result<Vec<Items<usize>>, SearchError>
+    limits: &SearchLimits,
+) -> Result<Vec<NetItems<usize>>, SearchError>
     requires within { AreWithin (length sets.items) ways.now }
     requires places { All (λ place. place < length seats.now) places.now }
     ensures all { IfOk result (λ found. AreAll ways.now sets.items found.items) }
@@ -83,7 +83,7 @@ fn group_of(
     labels: &[usize],
     label: usize,
     places: Vec<usize>,
-    limits: &Limits,
+    limits: &SearchLimits,
 ) -> Result<Group, SearchError>
     requires seats { length seats.now ≡ length sets.now }
     requires size { length labels.now ≡ length sets.now }
@@ -108,7 +108,7 @@ fn group_of(
     )?;
     let picks = all_values_at(alloc, found.as_slice(), places.as_slice())?;
     Ok(Group {
-        places: Items::from_vec(places),
+        places: NetItems::from_vec(places),
         picks,
     })
 }
@@ -119,7 +119,7 @@ fn groups_of(
     seats: &[Seat],
     ways: &[Way],
     sets: &[u64],
-    limits: &Limits,
+    limits: &SearchLimits,
 ) -> Result<Vec<Group>, SearchError>
     requires seats { length seats.now ≡ length sets.now }
     requires within { AreWithin (length sets.now) ways.now }
@@ -160,7 +160,7 @@ pub(crate) fn groups(
     seats: &[Seat],
     ways: &[Way],
     sets: &mut [u64],
-    limits: &Limits,
+    limits: &SearchLimits,
 ) -> Result<Vec<Group>, SearchError>
     requires seats { length seats.now ≡ length sets.old }
     requires within { AreWithin (length sets.old) ways.now }

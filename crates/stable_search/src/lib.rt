@@ -44,7 +44,7 @@ mod stable;
 mod stop;
 mod way;
 
-pub use every::{Every, Part};
-pub use limits::Limits;
+pub use every::{Component, Every};
+pub use limits::SearchLimits;
 pub use refusal::SearchError;
 pub use stable::stable_assignments;

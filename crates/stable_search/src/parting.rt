@@ -9,7 +9,7 @@ ghost use Rattle.stable_search.specs.Picks.{Has, FitsWay, IsWithin, AreWithin};
 ghost use Rattle.stable_search.specs.declared.way.Way.{Way};
 
 use crate::way::{Way, has};
-use ranked_policy::Items;
+use ranked_policy::NetItems;
 use std::alloc::{AllocError, Global};
 
 // The values that fit a value over a way; none if the way says nothing of it.
@@ -164,7 +164,7 @@ pub(crate) fn sets_with(
 }
 
 // The values that a pick has at these places.
-fn values_at(alloc: Global, pick: &[usize], places: &[usize]) -> Result<Items<usize>, AllocError>
+fn values_at(alloc: Global, pick: &[usize], places: &[usize]) -> Result<NetItems<usize>, AllocError>
     requires { All (λ place. place < length pick.now) places.now }
     ensures { IfOk result (λ values. values ≡ at_places pick.now places.now) }
 {
@@ -172,15 +172,15 @@ fn values_at(alloc: Global, pick: &[usize], places: &[usize]) -> Result<Items<us
     for place in places {
         values.push(pick[*place])?;
     }
-    Ok(Items::from_vec(values))
+    Ok(NetItems::from_vec(values))
 }
 
 /// The values that each pick has at these places.
 pub(crate) fn all_values_at(
     alloc: Global,
-    picks: &[Items<usize>],
+    picks: &[NetItems<usize>],
     places: &[usize],
-) -> Result<Items<Items<usize>>, AllocError>
+) -> Result<NetItems<NetItems<usize>>, AllocError>
     requires { All (λ pick. All (λ place. place < length pick) places.now) picks.now }
     ensures { IfOk result (λ values. values ≡ map (λ pick. at_places pick places.now) picks.now) }
 {
@@ -188,5 +188,5 @@ pub(crate) fn all_values_at(
     for pick in picks {
         values.push(values_at(alloc, pick.as_slice(), places)?)?;
     }
-    Ok(Items::from_vec(values))
+    Ok(NetItems::from_vec(values))
 }

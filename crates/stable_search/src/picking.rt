@@ -5,7 +5,7 @@ ghost use Rattle.std.specs.List.{All, Contains};
 ghost use Rattle.stable_search.specs.Picks.{IsOnly, IsOnlyPick, FallsInto, FitsWay, IsWithin, AreWithin};
 
 use crate::way::Way;
-use ranked_policy::Items;
+use ranked_policy::NetItems;
 use std::alloc::{AllocError, Global};
 
 // The only value of a set, if it has exactly one.
@@ -24,7 +24,7 @@ fn only_value(set: u64) -> Option<usize>
 }
 
 /// The pick of the only value of each set, if each has exactly one.
-pub(crate) fn only_pick(alloc: Global, sets: &[u64]) -> Result<Option<Items<usize>>, AllocError>
+pub(crate) fn only_pick(alloc: Global, sets: &[u64]) -> Result<Option<NetItems<usize>>, AllocError>
     ensures { IfOk result (λ found. MatchOption found (0 < length sets.now) (IsOnlyPick sets.now)) }
 {
     let mut pick = Vec::with_capacity(alloc, sets.len())?;
@@ -34,7 +34,7 @@ pub(crate) fn only_pick(alloc: Global, sets: &[u64]) -> Result<Option<Items<usiz
             None => return Ok(None),
         }
     }
-    Ok(Some(Items::from_vec(pick)))
+    Ok(Some(NetItems::from_vec(pick)))
 }
 
 // Whether the values that a pick has at two places fit.

@@ -1,6 +1,6 @@
 //! Why a search refuses.
 
-use ranked_policy::{Asn, Items};
+use ranked_policy::{Asn, NetItems};
 use std::alloc::{AllocError, AllocFailed};
 use thiserror::Error;
 
@@ -21,13 +21,13 @@ pub enum SearchError {
     #[error("too many choices")]
     TooManyChoices {
         /// The routers, by rising number.
-        routers: Items<Asn>,
+        routers: NetItems<Asn>,
     },
     /// The search of these routers took as many steps as it may.
     #[error("too many steps")]
     TooManySteps {
         /// The routers, by rising number.
-        routers: Items<Asn>,
+        routers: NetItems<Asn>,
     },
     /// A growth was refused.
     #[error("out of memory")]

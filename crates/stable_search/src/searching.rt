@@ -8,15 +8,15 @@ use crate::narrowing::{mark_of, narrow_all};
 use crate::picking::{first_apart, fits_all, is_dead, only_pick, place_to_split};
 use crate::stop::Stop;
 use crate::way::Way;
-use ranked_policy::Items;
+use ranked_policy::NetItems;
 use std::alloc::Global;
 
 // Adds a pick if its values fit.
 fn add_fitting(
     ways: &[Way],
-    pick: Items<usize>,
+    pick: NetItems<usize>,
     most: usize,
-    found: &mut Vec<Items<usize>>,
+    found: &mut Vec<NetItems<usize>>,
 ) -> Result<(), Stop>
     requires within { AreWithin (length pick) ways.now }
     requires low { All (λ value. value < 64) pick }
@@ -43,7 +43,7 @@ fn settle(
     sets: &mut [u64],
     marks: u64,
     most: usize,
-    found: &mut Vec<Items<usize>>,
+    found: &mut Vec<NetItems<usize>>,
 ) -> Result<Option<usize>, Stop>
     requires { AreWithin (length sets.old) ways.now }
     ensures next { IfOk result (λ next. MatchOption next
@@ -75,7 +75,7 @@ pub(crate) fn search(
     marks: u64,
     most: usize,
     steps: &mut u64,
-    found: &mut Vec<Items<usize>>,
+    found: &mut Vec<NetItems<usize>>,
 ) -> Result<(), Stop>
     requires { AreWithin (length sets.items) ways.now }
     ensures steps { steps.new ≤ steps.old }

@@ -14,7 +14,7 @@ ghost use Rattle.stable_search.specs.Seats.{AreValuesOf};
 use crate::chooser::Chooser;
 use crate::refusal::SearchError;
 use ranked_policy::laws::{each_policy_is_an_order, the_longest_rule_is_one};
-use ranked_policy::{Asn, Chosen, Items, MOST_PATHS, Network, Path, Policy};
+use ranked_policy::{Asn, Chosen, MOST_PATHS, NetItems, Network, Path, Policy};
 use stable_paths::Instance;
 use std::alloc::{AllocError, Global};
 
@@ -233,7 +233,7 @@ pub(crate) fn routers_at(
     alloc: Global,
     seats: &[Seat],
     places: &[usize],
-) -> Result<Items<Asn>, AllocError>
+) -> Result<NetItems<Asn>, AllocError>
     requires { All (λ place. place < length seats.now) places.now }
     ensures { IfOk result (AreRoutersAt seats.now places.now) }
 {
@@ -241,5 +241,5 @@ pub(crate) fn routers_at(
     for place in places {
         routers.push(seats[*place].router)?;
     }
-    Ok(Items::from_vec(routers))
+    Ok(NetItems::from_vec(routers))
 }

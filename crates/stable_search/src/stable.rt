@@ -12,16 +12,16 @@ ghost use Rattle.stable_search.specs.declared.seat.Seat.{Seat};
 
 use crate::chooser::choosers;
 use crate::distance::distances;
-use crate::every::{Every, Part};
+use crate::every::{Component, Every};
 use crate::fixing::fixed_paths;
 use crate::group::{Group, groups};
 use crate::laws::stable_is_fitting;
-use crate::limits::Limits;
+use crate::limits::SearchLimits;
 use crate::listing::list_open;
 use crate::refusal::SearchError;
 use crate::relating::ways_between;
 use crate::seat::{Seat, routers_at, seats};
-use ranked_policy::{Items, Path};
+use ranked_policy::{NetItems, Path};
 use stable_paths::Instance;
 use std::alloc::{AllocError, Global};
 
@@ -31,7 +31,7 @@ fn shown(
     seats: &[Seat],
     places: &[usize],
     pick: &[usize],
-) -> Result<Items<Path>, AllocError>
+) -> Result<NetItems<Path>, AllocError>
     requires inside { All (λ place. place < length seats.now) places.now }
     requires size { length pick.now ≡ length places.now }
     requires values { (k : ℕ) (seat : Seat) → k < length places.now
@@ -43,7 +43,7 @@ fn shown(
         let path = &seats[*place].values[pick[k]];
         choice.push(Path::from_slice(alloc, path.as_slice())?)?;
     }
-    Ok(Items::from_vec(choice))
+    Ok(NetItems::from_vec(choice))
 }
 
 // The set of the first `count` values.
@@ -71,7 +71,7 @@ fn all_values(alloc: Global, seats: &[Seat]) -> Result<Vec<u64>, AllocError>
 }
 
 // The part of a group.
-fn part_of(alloc: Global, seats: &[Seat], group: &Group) -> Result<Part, AllocError>
+fn part_of(alloc: Global, seats: &[Seat], group: &Group) -> Result<Component, AllocError>
     requires { (sets : List ℕ) × AreValues seats.now sets × IsGroup sets group.now }
     ensures { IfOk result (IsPartOf seats.now group.now) }
 {
@@ -81,14 +81,18 @@ fn part_of(alloc: Global, seats: &[Seat], group: &Group) -> Result<Part, AllocEr
         choices.push(shown(alloc, seats, places, pick.as_slice())?)?;
     }
     let routers = routers_at(alloc, seats, places)?;
-    Ok(Part {
+    Ok(Component {
         routers,
-        choices: Items::from_vec(choices),
+        choices: NetItems::from_vec(choices),
     })
 }
 
 // The parts of groups, in their order.
-fn parts_of(alloc: Global, seats: &[Seat], groups: &[Group]) -> Result<Items<Part>, AllocError>
+fn parts_of(
+    alloc: Global,
+    seats: &[Seat],
+    groups: &[Group],
+) -> Result<NetItems<Component>, AllocError>
     requires { (sets : List ℕ) × AreValues seats.now sets × All (IsGroup sets) groups.now }
     ensures { IfOk result (ArePartsOf seats.now groups.now) }
 {
@@ -96,7 +100,7 @@ fn parts_of(alloc: Global, seats: &[Seat], groups: &[Group]) -> Result<Items<Par
     for group in groups {
         parts.push(part_of(alloc, seats, group)?)?;
     }
-    Ok(Items::from_vec(parts))
+    Ok(NetItems::from_vec(parts))
 }
 
 // The routers with the paths that they may have. A router that is seen to have only one path has that alone.
@@ -125,7 +129,7 @@ fn all_seats<'a>(alloc: Global, instance: &Instance<'a>) -> Result<Vec<Seat<'a>>
 pub fn stable_assignments(
     alloc: Global,
     instance: &Instance,
-    limits: &Limits,
+    limits: &SearchLimits,
 ) -> Result<Every, SearchError>
     // All stable assignments, and no other.
     ensures every { IfOk result (IsEveryStable instance.now) }

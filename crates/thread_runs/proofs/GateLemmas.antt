@@ -8,7 +8,7 @@ use Rattle.std.proofs.lemmas.List.Sums.{length-filter}
 use Rattle.std.proofs.Math.Nat.{mul-mod_left, mul-div_cancel}
 use Rattle.std.proofs.lemmas.Nat.{div-add-mod'}
 use Rattle.ranked_policy.specs.Plans.{Plan, numbers}
-use Rattle.ranked_policy.specs.declared.network.Router.{Router}
+use Rattle.ranked_policy.specs.declared.network.NetRouter.{NetRouter}
 use Rattle.ranked_policy.specs.declared.network.Origin.{Origin}
 use Rattle.router_model.specs.Settings.{linked}
 use Rattle.router_model.specs.declared.command.Command.TheVariants.{Start, Originate, Snapshot}
@@ -105,10 +105,10 @@ module _ {X : Type 0} (f : X → Chore) (p : X → Bool) where
   pub all_chosen : (xs : List X) (i : ℕ) (old all : List Chore) → length xs ≤ i → old ++ chosen (drop i xs) ≡ all → old ≡ all
   all_chosen xs i old all far h = sym (append-nil old) ∙ ap (λ (ys : List X). old ++ chosen ys) (sym (drop_all i xs far)) ∙ h
 
-abbrev pub start : Router → Chore
+abbrev pub start : NetRouter → Chore
 start r = Command (Start r.asn)
 
-abbrev pub is_peer : Plan → ℕ → Router → Bool
+abbrev pub is_peer : Plan → ℕ → NetRouter → Bool
 is_peer net u r = linked net u r.asn
 
 abbrev pub originate : Origin → Chore
@@ -117,12 +117,12 @@ originate o = Command (Originate o.prefix)
 abbrev pub is_of : ℕ → Origin → Bool
 is_of u o = o.router == u
 
-started : (net : Plan) (u : ℕ) (r : Router) (rs : List Router) (b : Bool) → map (λ v. Command (Start v)) (filter (linked net u) (numbers rs)) ≡ chosen start (is_peer net u) rs
+started : (net : Plan) (u : ℕ) (r : NetRouter) (rs : List NetRouter) (b : Bool) → map (λ v. Command (Start v)) (filter (linked net u) (numbers rs)) ≡ chosen start (is_peer net u) rs
     → map (λ v. Command (Start v)) (cond b (r.asn ∷ filter (linked net u) (numbers rs)) (filter (linked net u) (numbers rs))) ≡ map start (cond b (r ∷ filter (is_peer net u) rs) (filter (is_peer net u) rs))
 started net u r rs true h = ap (λ (cs : List Chore). start r ∷ cs) h
 started net u r rs false h = h
 
-starts_are : (net : Plan) (u : ℕ) (rs : List Router) → map (λ v. Command (Start v)) (filter (linked net u) (numbers rs)) ≡ chosen start (is_peer net u) rs
+starts_are : (net : Plan) (u : ℕ) (rs : List NetRouter) → map (λ v. Command (Start v)) (filter (linked net u) (numbers rs)) ≡ chosen start (is_peer net u) rs
 starts_are net u [] = refl
 starts_are net u (r ∷ rs) = started net u r rs (linked net u r.asn) (starts_are net u rs)
 
@@ -142,23 +142,23 @@ opening_len net u =
 
 -- ---- what each router is told, one by one
 
-pub told_on : (net : Plan) (spacing left : ℕ) (rs : List Router) (i : ℕ) (r : Router) (old new all : List Told) → i < length rs → r ≡ get_or rs i r
+pub told_on : (net : Plan) (spacing left : ℕ) (rs : List NetRouter) (i : ℕ) (r : NetRouter) (old new all : List Told) → i < length rs → r ≡ get_or rs i r
     → new ≡ old ++ record { opening = opening net r.asn; spacing = spacing; snapshots = left } ∷ [] → old ++ told_each net spacing left (drop i rs) ≡ all
     → new ++ told_each net spacing 0 (drop (i + 1) rs) ≡ all
 told_on net spacing left rs i r old new all below at put h =
     let one : Told = record { opening = opening net r.asn; spacing = spacing; snapshots = left } in
     let rest = told_each net spacing 0 (drop (i + 1) rs) in
-    let left_is : drop i rs ≡ r ∷ drop (i + 1) rs = drop_more rs i r below ∙ ap (λ (y : Router). y ∷ drop (i + 1) rs) (sym at) in
-    ap (λ (t : List Told). t ++ rest) put ∙ append_assoc old (one ∷ []) rest ∙ ap (λ (ys : List Router). old ++ told_each net spacing left ys) (sym left_is) ∙ h
+    let left_is : drop i rs ≡ r ∷ drop (i + 1) rs = drop_more rs i r below ∙ ap (λ (y : NetRouter). y ∷ drop (i + 1) rs) (sym at) in
+    ap (λ (t : List Told). t ++ rest) put ∙ append_assoc old (one ∷ []) rest ∙ ap (λ (ys : List NetRouter). old ++ told_each net spacing left ys) (sym left_is) ∙ h
 
-pub all_told : (net : Plan) (spacing left : ℕ) (rs : List Router) (i : ℕ) (old all : List Told) → length rs ≤ i → old ++ told_each net spacing left (drop i rs) ≡ all → old ≡ all
+pub all_told : (net : Plan) (spacing left : ℕ) (rs : List NetRouter) (i : ℕ) (old all : List Told) → length rs ≤ i → old ++ told_each net spacing left (drop i rs) ≡ all → old ≡ all
 all_told net spacing left rs i old all far h =
-    sym (append-nil old) ∙ ap (λ (ys : List Router). old ++ told_each net spacing left ys) (sym (drop_all i rs far)) ∙ h
+    sym (append-nil old) ∙ ap (λ (ys : List NetRouter). old ++ told_each net spacing left ys) (sym (drop_all i rs far)) ∙ h
 
-pub told_len : (net : Plan) (spacing left : ℕ) (rs : List Router) → length (told_each net spacing left rs) ≡ length rs
+pub told_len : (net : Plan) (spacing left : ℕ) (rs : List NetRouter) → length (told_each net spacing left rs) ≡ length rs
 told_len net spacing left [] = refl
 told_len net spacing left (r ∷ rs) = ap suc (told_len net spacing 0 rs)
 
-pub first_is : (rs : List Router) (d : Router) → 0 < length rs → first_router rs ≡ (get_or rs 0 d).asn
+pub first_is : (rs : List NetRouter) (d : NetRouter) → 0 < length rs → first_router rs ≡ (get_or rs 0 d).asn
 first_is [] d some = absurd (omega (arith, some))
 first_is (r ∷ rs) d some = refl

@@ -2,7 +2,7 @@
 use Rattle.std.specs.Prelude.{ℕ, zero, suc, ◌+◌, ◌-◌, ◌*◌, ◌/◌, ◌%◌, ◌<◌, ◌≤◌, ◌≡◌, ◌==◌, ◌||◌, nat_lt, cond, List, [], ◌∷◌, ◌++◌, length, map, filter, slice_index_or}
 use Rattle.std.specs.List.{All}
 use Rattle.ranked_policy.specs.Plans.{Plan}
-use Rattle.ranked_policy.specs.declared.network.Router.{Router}
+use Rattle.ranked_policy.specs.declared.network.NetRouter.{NetRouter}
 use Rattle.ranked_policy.specs.declared.network.Origin.{Origin}
 use Rattle.router_model.specs.declared.command.Command.TheVariants.{Start, Originate, Snapshot}
 use Rattle.router_model.specs.Settings.{peers}
@@ -61,14 +61,14 @@ abbrev pub given_by : RunGate → List Chore
 given_by g = first_chores (chore_at (told_of g)) g.count
 
 -- what each router's gate is told: the least router takes the snapshots
-abbrev pub told_each : Plan → (spacing snapshots : ℕ) → List Router → List Told
+abbrev pub told_each : Plan → (spacing snapshots : ℕ) → List NetRouter → List Told
 told_each net spacing snapshots [] = []
 told_each net spacing snapshots (r ∷ rs) =
     record { opening = opening net r.asn; spacing = spacing; snapshots = snapshots } ∷ told_each net spacing 0 rs
 
 -- ---- options
 
-abbrev pub first_router : List Router → ℕ
+abbrev pub first_router : List NetRouter → ℕ
 first_router [] = 0
 first_router (r ∷ rs) = r.asn
 

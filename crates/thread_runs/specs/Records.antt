@@ -4,9 +4,9 @@ use Rattle.ranked_policy.specs.Plans.{Plan}
 use Rattle.snap_collector.specs.Collector.{CollectorView}
 use Rattle.net_workers.specs.declared.record.RunFault.{RunFault}
 use Rattle.worker_loop.specs.declared.chore.Chore.{Chore}
-use Rattle.worker_loop.specs.declared.journal.Entry.{Entry}
+use Rattle.worker_loop.specs.declared.journal.WorkerEvent.{WorkerEvent}
 use Rattle.net_workers.specs.declared.record.Worked.{Worked}
-use Rattle.net_workers.specs.declared.record.Way.{Way}
+use Rattle.net_workers.specs.declared.record.ClosedPipe.{ClosedPipe}
 use Rattle.net_workers.specs.Ran.{IsRecord}
 use Rattle.net_workers.specs.Faults.{FaultOf}
 use Rattle.net_workers.specs.Runs.{RunKeepsPromises}
@@ -22,9 +22,9 @@ use Rattle.net_workers.specs.declared.record.RunFault.TheVariants as fault
 -- keeps the promises of runs; each router, rising, was told what stands for it here
 pub record ThreadsRecord {G T : Type 0} (given : G → List Chore) (told : G → T) (net : Plan) (turns : ℕ) (tellings : List T) : Type 0 where
   pub workers : List (Worked G)
-  pub ways : List Way
+  pub ways : List ClosedPipe
   pub collector : CollectorView
-  pub gathered : List Entry
+  pub gathered : List WorkerEvent
   pub recorded : IsRecord given net turns (passed_in ways) workers collector gathered
   pub pipes : AreWays net ways
   pub gates : map (λ w. told w.gate) workers ≡ tellings

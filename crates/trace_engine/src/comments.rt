@@ -4,14 +4,14 @@
 ghost use Rattle.std.specs.Prelude.{◌≡◌, ◌++◌, OnOk};
 ghost use Rattle.trace_engine.specs.Tracing.{place_text, head_line, head_text, idle_line, counted_line, ticked_line, tail_text, round_line, stop_comment};
 
-use net_text::Tail;
+use net_text::TextTail;
 use schedule_text::{ScheduledOrder, stop_line};
 use std::alloc::AllocError;
 use world_core::{Order, StepFault};
 
 // Writes of which line a comment is.
 #[tactic(auto, unfolding(crate::specs::Tracing::place_text))]
-fn write_place(out: &mut Tail, line: usize) -> Result<(), AllocError>
+fn write_place(out: &mut TextTail, line: usize) -> Result<(), AllocError>
     ensures text { OnOk result (out.new.text ≡ out.old.text ++ place_text line) }
     ensures front { out.new.front ≡ out.old.front }
 {
@@ -21,7 +21,12 @@ fn write_place(out: &mut Tail, line: usize) -> Result<(), AllocError>
 }
 
 #[tactic(auto, unfolding(crate::specs::Tracing::head_line))]
-fn write_head_line(out: &mut Tail, line: usize, word: &[u8], times: u32) -> Result<(), AllocError>
+fn write_head_line(
+    out: &mut TextTail,
+    line: usize,
+    word: &[u8],
+    times: u32,
+) -> Result<(), AllocError>
     ensures text { OnOk result (out.new.text ≡ out.old.text ++ head_line line word.now times) }
     ensures front { out.new.front ≡ out.old.front }
 {
@@ -31,7 +36,7 @@ fn write_head_line(out: &mut Tail, line: usize, word: &[u8], times: u32) -> Resu
     out.put_text(b"\n")
 }
 
-fn write_head(out: &mut Tail, scheduled: &ScheduledOrder) -> Result<(), AllocError>
+fn write_head(out: &mut TextTail, scheduled: &ScheduledOrder) -> Result<(), AllocError>
     ensures text { OnOk result (out.new.text ≡ out.old.text ++ head_text scheduled.now.line scheduled.now.order) }
     ensures front { out.new.front ≡ out.old.front }
 {
@@ -43,7 +48,7 @@ fn write_head(out: &mut Tail, scheduled: &ScheduledOrder) -> Result<(), AllocErr
 }
 
 #[tactic(auto, unfolding(crate::specs::Tracing::idle_line))]
-fn write_idle(out: &mut Tail, line: usize) -> Result<(), AllocError>
+fn write_idle(out: &mut TextTail, line: usize) -> Result<(), AllocError>
     ensures text { OnOk result (out.new.text ≡ out.old.text ++ idle_line line) }
     ensures front { out.new.front ≡ out.old.front }
 {
@@ -54,7 +59,7 @@ fn write_idle(out: &mut Tail, line: usize) -> Result<(), AllocError>
 // Writes how many events were done, and something of a number of rounds.
 #[tactic(auto, unfolding(crate::specs::Tracing::counted_line))]
 fn write_counted(
-    out: &mut Tail,
+    out: &mut TextTail,
     line: usize,
     count: usize,
     said: &[u8],
@@ -71,7 +76,7 @@ fn write_counted(
 }
 
 #[tactic(auto, unfolding(crate::specs::Tracing::ticked_line))]
-fn write_ticked(out: &mut Tail, line: usize, count: usize) -> Result<(), AllocError>
+fn write_ticked(out: &mut TextTail, line: usize, count: usize) -> Result<(), AllocError>
     ensures text { OnOk result (out.new.text ≡ out.old.text ++ ticked_line line count) }
     ensures front { out.new.front ≡ out.old.front }
 {
@@ -81,7 +86,7 @@ fn write_ticked(out: &mut Tail, line: usize, count: usize) -> Result<(), AllocEr
 }
 
 fn write_tail(
-    out: &mut Tail,
+    out: &mut TextTail,
     scheduled: &ScheduledOrder,
     count: usize,
     rest: Option<u32>,
@@ -114,7 +119,7 @@ fn write_tail(
 }
 
 #[tactic(auto, unfolding(crate::specs::Tracing::round_line))]
-fn write_round(out: &mut Tail, number: u32, count: usize) -> Result<(), AllocError>
+fn write_round(out: &mut TextTail, number: u32, count: usize) -> Result<(), AllocError>
     ensures text { OnOk result (out.new.text ≡ out.old.text ++ round_line number count) }
     ensures front { out.new.front ≡ out.old.front }
 {
@@ -129,7 +134,7 @@ fn write_round(out: &mut Tail, number: u32, count: usize) -> Result<(), AllocErr
 pub(crate) fn put_head(scheduled: &ScheduledOrder, out: &mut Vec<u8>) -> Result<(), AllocError>
     ensures { OnOk result (out.new.items ≡ out.old.items ++ head_text scheduled.now.line scheduled.now.order) }
 {
-    let mut tail = Tail::behind(out);
+    let mut tail = TextTail::behind(out);
     let result = write_head(&mut tail, scheduled);
     *out = tail.finish(result.is_ok());
     result
@@ -146,7 +151,7 @@ pub(crate) fn put_tail(
     ensures { OnOk result
         (out.new.items ≡ out.old.items ++ tail_text scheduled.now.line scheduled.now.order count rest) }
 {
-    let mut tail = Tail::behind(out);
+    let mut tail = TextTail::behind(out);
     let result = write_tail(&mut tail, scheduled, count, rest);
     *out = tail.finish(result.is_ok());
     result
@@ -156,7 +161,7 @@ pub(crate) fn put_tail(
 pub(crate) fn put_round(number: u32, count: usize, out: &mut Vec<u8>) -> Result<(), AllocError>
     ensures { OnOk result (out.new.items ≡ out.old.items ++ round_line number count) }
 {
-    let mut tail = Tail::behind(out);
+    let mut tail = TextTail::behind(out);
     let result = write_round(&mut tail, number, count);
     *out = tail.finish(result.is_ok());
     result

@@ -157,7 +157,7 @@ fn say_heard(router: &Router<'_>, peer: Asn, text: &mut Vec<u8>) -> Result<(), A
 
 // Says which peer the router tells next, and which path, if it tells one.
 fn say_told(router: &Router<'_>, text: &mut Vec<u8>) -> Result<(), AllocError> {
-    match router.next_told() {
+    match router.next_advertised() {
         Some((peer, prefix)) => say_path(peer, &prefix, router.kept(&prefix), text),
         None => Ok(()),
     }

@@ -2,7 +2,7 @@
 use Rattle.std.proofs.Common.{◌≡◌, ℕ, ◌<◌, ap, sym, subst, ◌∙◌, inl, inr, false, refl}
 use Rattle.std.proofs.lemmas.Bool.{false≢true}
 use Rattle.std.proofs.lemmas.List.{length-map, get_or-map}
-use Rattle.ranked_policy.specs.declared.network.Router as network
+use Rattle.ranked_policy.specs.declared.network.NetRouter as network
 use Rattle.ranked_policy.specs.Plans.{Plan, IsRouter, numbers}
 use Rattle.ranked_policy.specs.Policies.{Table, IsTableOf}
 use Rattle.ranked_policy.proofs.OneTable.{one_table}
@@ -18,8 +18,8 @@ has_a_table : (net : Plan) (u : ℕ) (t : Table) → IsTableOf net u t → IsRou
 has_a_table net u t of =
     let x = of.2 in (
       x.0,
-      subst (λ (n : ℕ). x.0 < n) (sym (length-map net.routers (λ (r : network.Router). r.asn))) x.2,
-      get_or-map (λ (r : network.Router). r.asn) net.routers x.0 x.1 u x.2 ∙ ap (λ (r : network.Router). r.asn) x.3 ∙ x.4.0,
+      subst (λ (n : ℕ). x.0 < n) (sym (length-map net.routers (λ (r : network.NetRouter). r.asn))) x.2,
+      get_or-map (λ (r : network.NetRouter). r.asn) net.routers x.0 x.1 u x.2 ∙ ap (λ (r : network.NetRouter). r.asn) x.3 ∙ x.4.0,
     )
 
 not_both : (g : Setting) (u : ℕ) (t : Table) → is_router g u ≡ false → IsTableOf g.net u t → ⊥

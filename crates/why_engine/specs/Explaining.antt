@@ -9,7 +9,7 @@ use Rattle.session_fsm.specs.declared.state.State.TheVariants.{Idle, Connect, Ac
 use Rattle.outbox.specs.declared.item.Item.{Item}
 use Rattle.outbox.specs.Items.{octets_waiting}
 use Rattle.ranked_policy.specs.declared.network.Origin.{Origin}
-use Rattle.ranked_policy.specs.declared.network.Rule.{Rule}
+use Rattle.ranked_policy.specs.declared.network.RankRule.{RankRule}
 use Rattle.ranked_policy.specs.Plans.{IsRouter}
 use Rattle.ranked_policy.specs.Policies.{Table, IsTable, IsTableOf}
 use Rattle.ranked_policy.specs.Tests.{permits, rule_for}
@@ -75,7 +75,7 @@ place_in n [] path = 0
 place_in n (p ∷ ps) path = if same_path p path then n else place_in (n + 1) ps path
 
 -- the place of a path in a rule, in which the best stands first
-abbrev pub place_text : Option Rule → List ℕ → List ℕ
+abbrev pub place_text : Option RankRule → List ℕ → List ℕ
 place_text None path = []
 place_text (Some rule) path = codes ", place " ++ decimal (place_in 1 rule.paths path)
 

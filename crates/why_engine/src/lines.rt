@@ -3,7 +3,7 @@
 ghost use Rattle.std.specs.Prelude.{◌≡◌, ◌++◌, OnOk};
 ghost use Rattle.why_engine.specs.Explaining.{state_text, outbox_text, coming_text, number_text, behind_word, session_text, peer_line, originated_text, kept_line, numbers_behind, told_line, router_line};
 
-use net_text::{Tail, put_path};
+use net_text::{TextTail, put_path};
 use prefix_lanes::Prefix;
 use ranked_policy::Asn;
 use session_fsm::State;
@@ -23,14 +23,14 @@ fn state_text(state: State) -> &'static [u8]
     }
 }
 
-fn write_state(out: &mut Tail, state: State) -> Result<(), AllocError>
+fn write_state(out: &mut TextTail, state: State) -> Result<(), AllocError>
     ensures text { OnOk result (out.new.text ≡ out.old.text ++ state_text state) }
     ensures front { out.new.front ≡ out.old.front }
 {
     out.put_text(state_text(state))
 }
 
-fn write_outbox(out: &mut Tail, waiting: usize) -> Result<(), AllocError>
+fn write_outbox(out: &mut TextTail, waiting: usize) -> Result<(), AllocError>
     ensures text { OnOk result (out.new.text ≡ out.old.text ++ outbox_text waiting) }
     ensures front { out.new.front ≡ out.old.front }
 {
@@ -41,7 +41,7 @@ fn write_outbox(out: &mut Tail, waiting: usize) -> Result<(), AllocError>
     out.put_len(waiting)
 }
 
-fn write_coming(out: &mut Tail, coming: bool) -> Result<(), AllocError>
+fn write_coming(out: &mut TextTail, coming: bool) -> Result<(), AllocError>
     ensures text { OnOk result (out.new.text ≡ out.old.text ++ coming_text coming) }
     ensures front { out.new.front ≡ out.old.front }
 {
@@ -52,7 +52,7 @@ fn write_coming(out: &mut Tail, coming: bool) -> Result<(), AllocError>
 }
 
 #[tactic(auto, unfolding(crate::specs::Explaining::number_text))]
-fn write_number(out: &mut Tail, peer: Asn) -> Result<(), AllocError>
+fn write_number(out: &mut TextTail, peer: Asn) -> Result<(), AllocError>
     ensures text { OnOk result (out.new.text ≡ out.old.text ++ number_text peer) }
     ensures front { out.new.front ≡ out.old.front }
 {
@@ -62,7 +62,7 @@ fn write_number(out: &mut Tail, peer: Asn) -> Result<(), AllocError>
 }
 
 #[tactic(auto, unfolding(crate::specs::Explaining::behind_word))]
-fn write_behind(out: &mut Tail, word: &[u8], number: u32) -> Result<(), AllocError>
+fn write_behind(out: &mut TextTail, word: &[u8], number: u32) -> Result<(), AllocError>
     ensures text { OnOk result (out.new.text ≡ out.old.text ++ behind_word word.now number) }
     ensures front { out.new.front ≡ out.old.front }
 {
@@ -71,7 +71,7 @@ fn write_behind(out: &mut Tail, word: &[u8], number: u32) -> Result<(), AllocErr
 }
 
 #[tactic(auto, unfolding(crate::specs::Explaining::session_text))]
-fn write_session(out: &mut Tail, peer: Asn, state: State, epoch: u32) -> Result<(), AllocError>
+fn write_session(out: &mut TextTail, peer: Asn, state: State, epoch: u32) -> Result<(), AllocError>
     ensures text { OnOk result (out.new.text ≡ out.old.text ++ session_text peer state epoch) }
     ensures front { out.new.front ≡ out.old.front }
 {
@@ -82,7 +82,7 @@ fn write_session(out: &mut Tail, peer: Asn, state: State, epoch: u32) -> Result<
 
 #[tactic(auto, unfolding(crate::specs::Explaining::peer_line))]
 fn write_peer(
-    out: &mut Tail,
+    out: &mut TextTail,
     peer: Asn,
     state: State,
     epoch: u32,
@@ -110,13 +110,13 @@ pub(crate) fn put_peer_line(
 ) -> Result<(), AllocError>
     ensures { OnOk result (out.new.items ≡ out.old.items ++ peer_line peer state epoch waiting coming) }
 {
-    let mut tail = Tail::behind(out);
+    let mut tail = TextTail::behind(out);
     let result = write_peer(&mut tail, peer, state, epoch, waiting, coming);
     *out = tail.finish(result.is_ok());
     result
 }
 
-fn write_originated(out: &mut Tail, originated: bool) -> Result<(), AllocError>
+fn write_originated(out: &mut TextTail, originated: bool) -> Result<(), AllocError>
     ensures text { OnOk result (out.new.text ≡ out.old.text ++ originated_text originated) }
     ensures front { out.new.front ≡ out.old.front }
 {
@@ -128,7 +128,7 @@ fn write_originated(out: &mut Tail, originated: bool) -> Result<(), AllocError>
 
 #[tactic(auto, unfolding(crate::specs::Explaining::kept_line))]
 fn write_kept(
-    out: &mut Tail,
+    out: &mut TextTail,
     prefix: &Prefix,
     kept: &[Asn],
     originated: bool,
@@ -153,14 +153,14 @@ pub(crate) fn put_kept_line(
 ) -> Result<(), AllocError>
     ensures { OnOk result (out.new.items ≡ out.old.items ++ kept_line prefix.now kept.now originated) }
 {
-    let mut tail = Tail::behind(out);
+    let mut tail = TextTail::behind(out);
     let result = write_kept(&mut tail, prefix, kept, originated);
     *out = tail.finish(result.is_ok());
     result
 }
 
 // Writes numbers, a space before each.
-fn write_numbers(out: &mut Tail, numbers: &[Asn]) -> Result<(), AllocError>
+fn write_numbers(out: &mut TextTail, numbers: &[Asn]) -> Result<(), AllocError>
     ensures text { OnOk result (out.new.text ≡ out.old.text ++ numbers_behind numbers.now) }
     ensures front { out.new.front ≡ out.old.front }
 {
@@ -172,7 +172,7 @@ fn write_numbers(out: &mut Tail, numbers: &[Asn]) -> Result<(), AllocError>
 }
 
 #[tactic(auto, unfolding(crate::specs::Explaining::told_line))]
-fn write_told(out: &mut Tail, peers: &[Asn]) -> Result<(), AllocError>
+fn write_told(out: &mut TextTail, peers: &[Asn]) -> Result<(), AllocError>
     ensures text { OnOk result (out.new.text ≡ out.old.text ++ told_line peers.now) }
     ensures front { out.new.front ≡ out.old.front }
 {
@@ -185,14 +185,14 @@ fn write_told(out: &mut Tail, peers: &[Asn]) -> Result<(), AllocError>
 pub(crate) fn put_told_line(peers: &[Asn], out: &mut Vec<u8>) -> Result<(), AllocError>
     ensures { OnOk result (out.new.items ≡ out.old.items ++ told_line peers.now) }
 {
-    let mut tail = Tail::behind(out);
+    let mut tail = TextTail::behind(out);
     let result = write_told(&mut tail, peers);
     *out = tail.finish(result.is_ok());
     result
 }
 
 #[tactic(auto, unfolding(crate::specs::Explaining::router_line))]
-fn write_router(out: &mut Tail, number: Asn) -> Result<(), AllocError>
+fn write_router(out: &mut TextTail, number: Asn) -> Result<(), AllocError>
     ensures text { OnOk result (out.new.text ≡ out.old.text ++ router_line number) }
     ensures front { out.new.front ≡ out.old.front }
 {
@@ -205,7 +205,7 @@ fn write_router(out: &mut Tail, number: Asn) -> Result<(), AllocError>
 pub(crate) fn put_router_line(number: Asn, out: &mut Vec<u8>) -> Result<(), AllocError>
     ensures { OnOk result (out.new.items ≡ out.old.items ++ router_line number) }
 {
-    let mut tail = Tail::behind(out);
+    let mut tail = TextTail::behind(out);
     let result = write_router(&mut tail, number);
     *out = tail.finish(result.is_ok());
     result

@@ -6,7 +6,7 @@ ghost use Rattle.router_model.specs.State.{same_path};
 ghost use Rattle.why_engine.specs.Explaining.{place_in, place_text, kept_text, choice_text, stands_in, may_use, verdict_text, word_line, said_text};
 ghost use Rattle.ranked_policy.specs.Tests.{rule_for};
 
-use net_text::{Tail, put_path};
+use net_text::{TextTail, put_path};
 use prefix_lanes::Prefix;
 use ranked_policy::laws::policies_are_tests;
 use ranked_policy::{Asn, Path, PolicyTable};
@@ -42,7 +42,7 @@ fn place_among(paths: &[Path], router: Asn, said: &[Asn]) -> usize
 }
 
 fn write_place(
-    out: &mut Tail,
+    out: &mut TextTail,
     table: &PolicyTable<'_>,
     prefix: &Prefix,
     said: &[Asn],
@@ -61,7 +61,7 @@ fn write_place(
     }
 }
 
-fn write_kept(out: &mut Tail, kept: &[Asn], router: Asn, said: &[Asn]) -> Result<(), AllocError>
+fn write_kept(out: &mut TextTail, kept: &[Asn], router: Asn, said: &[Asn]) -> Result<(), AllocError>
     ensures text { OnOk result (out.new.text ≡ out.old.text ++ kept_text kept.now (router ∷ said.now)) }
     ensures front { out.new.front ≡ out.old.front }
 {
@@ -73,7 +73,7 @@ fn write_kept(out: &mut Tail, kept: &[Asn], router: Asn, said: &[Asn]) -> Result
 
 #[tactic(auto, unfolding(crate::specs::Explaining::choice_text))]
 fn write_choice(
-    out: &mut Tail,
+    out: &mut TextTail,
     table: &PolicyTable<'_>,
     prefix: &Prefix,
     kept: &[Asn],
@@ -119,7 +119,7 @@ fn is_permitted(table: &PolicyTable<'_>, prefix: &Prefix, said: &[Asn]) -> bool
 }
 
 fn write_verdict(
-    out: &mut Tail,
+    out: &mut TextTail,
     table: &PolicyTable<'_>,
     prefix: &Prefix,
     kept: &[Asn],
@@ -139,7 +139,7 @@ fn write_verdict(
 
 #[tactic(auto, unfolding(crate::specs::Explaining::word_line))]
 fn write_word(
-    out: &mut Tail,
+    out: &mut TextTail,
     table: &PolicyTable<'_>,
     prefix: &Prefix,
     kept: &[Asn],
@@ -172,7 +172,7 @@ pub(crate) fn put_said(
     if said.is_empty() {
         return Ok(());
     }
-    let mut tail = Tail::behind(out);
+    let mut tail = TextTail::behind(out);
     let result = write_word(&mut tail, table, prefix, kept, peer, said);
     *out = tail.finish(result.is_ok());
     result

@@ -11,7 +11,7 @@ use Rattle.router_model.specs.Settings.{Setting}
 use Rattle.router_model.specs.Step.{Own, RouterEvent, Step}
 use Rattle.router_model.specs.Calls.{Stamped}
 use Rattle.world_core.specs.World.{name_of}
-use Rattle.worker_loop.specs.declared.journal.Entry.{Entry}
+use Rattle.worker_loop.specs.declared.journal.WorkerEvent.{WorkerEvent}
 
 -- an event of a router with its stamp; an item that it puts or takes has one too
 abbrev pub Act : Type 0
@@ -36,7 +36,7 @@ abbrev pub journal_of : List Act → Journal Own (StampedItem What) MadeOffer
 journal_of acts = map (λ a. a.event.event) acts
 
 -- an event as a journal names it
-abbrev pub entry_of : Act → Entry
+abbrev pub entry_of : Act → WorkerEvent
 entry_of a = record { stamp = a.stamp; event = name_of a.event.router (without_stamp a.event.event) }
 
 -- an event of router u leads from one of its states to another, at a later stamp
@@ -60,7 +60,7 @@ pub record Seen : Type 0 where
   pub taken : ℕ → List Item
   pub room : ℕ → ℕ
   pub made : List (Collected MadeOffer)
-  pub events : List Entry
+  pub events : List WorkerEvent
 
 -- between a and b just these events of router u were done, and written down
 pub record Does (g : Setting) (u : ℕ) (a : Seen) (acts : List Act) (b : Seen) : Type 0 where

@@ -6,7 +6,7 @@ use Rattle.router_model.specs.Step.{RouterEvent}
 use Rattle.router_model.specs.Calls.{Call, IsEventOf}
 use Rattle.world_core.specs.declared.schedule.Event.{Event}
 use Rattle.world_core.specs.World.{name_of}
-use Rattle.worker_loop.specs.declared.journal.Entry.{Entry}
+use Rattle.worker_loop.specs.declared.journal.WorkerEvent.{WorkerEvent}
 use Rattle.worker_loop.specs.declared.worker.WorkerFault.{WorkerFault}
 use Rattle.worker_loop.specs.declared.worker.WorkerFault.TheVariants as fault
 use Rattle.outbox.specs.declared.item.Item.{Item}
@@ -46,7 +46,7 @@ IsWhole turns cs =
     (All (λ c. c ≢ Stop) cs × (length cs ≡ turns))
     ⊎ ((front : List Chore) × (cs ≡ front ++ Stop ∷ []) × All (λ c. c ≢ Stop) front × (length cs ≤ turns))
 
-abbrev pub entry : ℕ → Event → Entry
+abbrev pub entry : ℕ → Event → WorkerEvent
 entry stamp event = record { stamp = stamp; event = event }
 
 -- the refusal of the router, as a worker sees it

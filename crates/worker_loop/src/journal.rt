@@ -8,7 +8,7 @@ use world_core::Event;
 
 /// An event that was done, and its stamp.
 #[derive(Clone, Copy, Debug, PartialEq, Eq)]
-pub struct Entry {
+pub struct WorkerEvent {
     /// The stamp.
     pub stamp: u64,
     /// The event.
@@ -21,7 +21,7 @@ pub struct Journal {
     /// The chores.
     pub chores: Vec<Chore>,
     /// The events, with their stamps.
-    pub events: Vec<Entry>,
+    pub events: Vec<WorkerEvent>,
 }
 
 impl Journal {

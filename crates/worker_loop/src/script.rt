@@ -3,8 +3,8 @@
 ghost use Rattle.std.specs.Prelude.{◌≡◌, []};
 ghost use Rattle.worker_loop.specs.Script.{chore_at, given_by};
 
-use crate::around::Gate;
 use crate::chore::Chore;
+use crate::traits::Gate;
 use ranked_policy::Asn;
 use std::sync::Wait;
 

@@ -1,17 +1,17 @@
 //! A worker.
 
+mod calls;
 mod chores;
 mod offer;
-mod own;
 mod passing;
 mod pipes;
 
 ghost use Rattle.std.specs.Prelude.{◌≡◌, ◌<◌, ◌++◌, ◌∷◌, [], vec_len, vec_capacity};
 ghost use Rattle.worker_loop.specs.Whole.{entry, passing};
 
-use crate::around::{Desk, Gate, Lines};
 use crate::chore::Chore;
-use crate::journal::{Entry, Journal};
+use crate::journal::{Journal, WorkerEvent};
+use crate::traits::{Desk, Gate, Pipes};
 use ranked_policy::Asn;
 use router_core::Router;
 use router_model::RouterError;
@@ -42,14 +42,14 @@ impl From<AllocError> for WorkerFault {
     }
 }
 
-/// A router, with the lines, the desk, the gate and the journal of its worker.
+/// A router, with the pipes, the desk, the gate and the journal of its worker.
 #[derive(Drop)]
 pub struct Worker<'a, L, D, G> {
     /// The router.
     pub router: Router<'a>,
     /// The numbers of its peers, rising.
     pub peers: Vec<Asn>,
-    /// The lines to its peers.
+    /// The pipes to its peers.
     pub lines: L,
     /// Its place at the board.
     pub desk: D,
@@ -75,14 +75,16 @@ fn passed_over(error: RouterError) -> Result<(), WorkerFault>
 }
 
 // Adds an event to a journal that has room for it.
-fn note(events: &mut Vec<Entry>, stamp: u64, event: Event)
+fn note(events: &mut Vec<WorkerEvent>, stamp: u64, event: Event)
     requires { vec_len events.old < vec_capacity events.old }
     ensures { events.new.items ≡ events.old.items ++ entry stamp event ∷ [] }
 {
-    events.extend_from_slice(&[Entry { stamp, event }]).unwrap();
+    events
+        .extend_from_slice(&[WorkerEvent { stamp, event }])
+        .unwrap();
 }
 
-impl<'a, L: Lines, D: Desk, G: Gate> Worker<'a, L, D, G> {
+impl<'a, L: Pipes, D: Desk, G: Gate> Worker<'a, L, D, G> {
     ghost use Rattle.std.specs.Prelude.{◌≡◌, IfOk, IfErr};
     ghost use Rattle.worker_loop.specs.Following.{Follows};
     ghost use Rattle.worker_loop.specs.Ending.{EndsFor};
@@ -91,7 +93,7 @@ impl<'a, L: Lines, D: Desk, G: Gate> Worker<'a, L, D, G> {
 
     /// Does the chores that the gate gives: so many, or up to the first Stop. After each chore it tells its desk what
     /// it did, and may wait there if it did nothing. If the desk answers that nothing comes, a Turn in which the router
-    /// has nothing to do is done without a look at the lines.
+    /// has nothing to do is done without a look at the pipes.
     ///
     /// Refused with [`WorkerFault::Refused`] only if the router, as it is then, has no stamp or incarnation left for a
     /// call of the last chore. Refused with [`WorkerFault::Memory`] only if the next chore was to be written down and

@@ -8,7 +8,7 @@ use Rattle.std.proofs.lemmas.List.{length-append}
 use Rattle.std.proofs.lemmas.Option.{get_or_from_slice_get, slice_get_within}
 use Rattle.run_model.specs.Network.{alone, puts, takes, offers}
 use Rattle.outbox.specs.declared.item.Item.{Item}
-use Rattle.ranked_policy.specs.declared.network.Router.{Router}
+use Rattle.ranked_policy.specs.declared.network.NetRouter.{NetRouter}
 use Rattle.ranked_policy.specs.Plans.{Plan, IsNetwork, numbers}
 use Rattle.snap_marker.specs.Recordings.{RouterOffer}
 use Rattle.router_model.specs.declared.refusal.RouterError.TheVariants as error
@@ -24,7 +24,7 @@ use Rattle.world_core.specs.declared.schedule.StepFault.TheVariants.{NoSuchRoute
 use Rattle.world_core.specs.World.{World, WorldAnswer, Does, Nothing, Stops, of_answer, of_offer, called, taking_of, where_router, where_linked, world_answer, world_after, world_of, onward, played, name_of}
 use Rattle.world_core.specs.Orders.{with_peer, turn}
 use Rattle.world_core.specs.Views.{WorldView, plain_world, Obeys}
-use Rattle.world_core.specs.Resting.{Rests, AreResting, AreRestingBeside, Woken}
+use Rattle.world_core.specs.IdleTurns.{TurnIsIdle, TurnsAreIdle, TurnsAreIdleBeside, Woken}
 use Rattle.world_core.proofs.Playing.{doing}
 use Rattle.world_core.proofs.Resting.{grows, rests}
 
@@ -177,16 +177,16 @@ rests_same g x y b net same h =
 
 module _ (x y : WorldView) (net : y.net ≡ x.net) where
   -- a turn that did nothing
-  pub rests_now : (u : ℕ) → Obeys (Ok tt) x (turn x.net u) y → length y.run ≡ length x.run → Rests y u
+  pub rests_now : (u : ℕ) → Obeys (Ok tt) x (turn x.net u) y → length y.run ≡ length x.run → TurnIsIdle y u
   rests_now u done still g e ranks =
       let h = done g (e ∙ net) ranks in
       let same = still_world g x y (turn x.net u) h still in
       rests_same g x y u net same (subst (λ (w : World). played g (plain_world x) 0 (turn x.net u) ≡ Ok w) same h)
 
-  pub rests_still : (events : List Event) (b : ℕ) → Obeys (Ok tt) x events y → length y.run ≡ length x.run → Rests x b → Rests y b
+  pub rests_still : (events : List Event) (b : ℕ) → Obeys (Ok tt) x events y → length y.run ≡ length x.run → TurnIsIdle x b → TurnIsIdle y b
   rests_still events b done still r g e ranks = rests_same g x y b net (still_world g x y events (done g (e ∙ net) ranks) still) (r g (e ∙ net) ranks)
 
-  pub rests_spared : AnswersAreSteps → IsNetwork x.net → (events : List Event) (b : ℕ) → Obeys (Ok tt) x events y → AllByRecursion (Spares b) events → Rests x b → Rests y b
+  pub rests_spared : AnswersAreSteps → IsNetwork x.net → (events : List Event) (b : ℕ) → Obeys (Ok tt) x events y → AllByRecursion (Spares b) events → TurnIsIdle x b → TurnIsIdle y b
   rests_spared law is_net events b done spares r g e ranks =
       let there = e ∙ net in
       let s = spared law g (subst IsNetwork (sym there) is_net) events (plain_world x) (plain_world y) 0 b spares (done g there ranks) in
@@ -201,13 +201,13 @@ number_is x y i b net h = subst (λ (n : Plan). slice_get (numbers n.routers) i 
 module _ (x y : WorldView) (u : ℕ) (net : y.net ≡ x.net) where
   -- something of its own was done
   pub beside_own : AnswersAreSteps → IsNetwork x.net → (events : List Event) (marks : List Bool) → ((b : ℕ) → u ≢ b → AllByRecursion (Spares b) events) → Obeys (Ok tt) x events y
-      → AreRestingBeside x u marks → AreRestingBeside y u marks
+      → TurnsAreIdleBeside x u marks → TurnsAreIdleBeside y u marks
   beside_own law is_net events marks spares done was i b mark is =
       let k = was i b mark (number_is x y i b net is) in
       (k.0, rests_spared x y net law is_net events b done (spares b k.0) k.1)
 
   -- something was put towards router v, which is woken
-  pub beside_put : AnswersAreSteps → IsNetwork x.net → (v : ℕ) (old new : List Bool) → Woken x.net v old new → Obeys (Ok tt) x (schedule.Put u v ∷ []) y → AreRestingBeside x u old → AreRestingBeside y u new
+  pub beside_put : AnswersAreSteps → IsNetwork x.net → (v : ℕ) (old new : List Bool) → Woken x.net v old new → Obeys (Ok tt) x (schedule.Put u v ∷ []) y → TurnsAreIdleBeside x u old → TurnsAreIdleBeside y u new
   beside_put law is_net v old new woken done was i b mark is =
       let here = number_is x y i b net is in
       let left = woken i b mark here in
@@ -215,7 +215,7 @@ module _ (x y : WorldView) (u : ℕ) (net : y.net ≡ x.net) where
       (k.0, rests_spared x y net law is_net (schedule.Put u v ∷ []) b done ((k.0, left.1), tt) k.1)
 
   -- nothing was done
-  pub beside_still : (events : List Event) (marks : List Bool) → Obeys (Ok tt) x events y → length y.run ≡ length x.run → AreRestingBeside x u marks → AreRestingBeside y u marks
+  pub beside_still : (events : List Event) (marks : List Bool) → Obeys (Ok tt) x events y → length y.run ≡ length x.run → TurnsAreIdleBeside x u marks → TurnsAreIdleBeside y u marks
   beside_still events marks done still was i b mark is =
       let k = was i b mark (number_is x y i b net is) in
       (k.0, rests_still x y net events b done still k.1)
@@ -241,7 +241,7 @@ one_place ns i k u pairs p q =
     apart_by ns i k u (nat_lt i k) (nat_lt k i) pairs refl refl (slice_get_within ns i u p) (slice_get_within ns k u q) (get_or_from_slice_get ns i u u p) (get_or_from_slice_get ns k u u q)
 
 -- before the turn of a router without a mark
-pub beside_from : (x : WorldView) (u place : ℕ) (marks : List Bool) → IsNetwork x.net → slice_get (numbers x.net.routers) place ≡ Some u → (slice_get marks place ≡ Some true → ⊥) → AreResting x marks → AreRestingBeside x u marks
+pub beside_from : (x : WorldView) (u place : ℕ) (marks : List Bool) → IsNetwork x.net → slice_get (numbers x.net.routers) place ≡ Some u → (slice_get marks place ≡ Some true → ⊥) → TurnsAreIdle x marks → TurnsAreIdleBeside x u marks
 beside_from x u place marks is_net at none was i b mark is = (
   λ same.
       let i_is = one_place (numbers x.net.routers) i place u is_net.plan.rising (is ∙ ap Some (sym same)) at in
@@ -250,37 +250,37 @@ beside_from x u place marks is_net at none was i b mark is = (
 )
 
 -- and behind it
-pub resting_from : (x : WorldView) (u : ℕ) (marks : List Bool) → AreRestingBeside x u marks → AreResting x marks
+pub resting_from : (x : WorldView) (u : ℕ) (marks : List Bool) → TurnsAreIdleBeside x u marks → TurnsAreIdle x marks
 resting_from x u marks was i b mark is = (was i b mark is).1
 
-marked_by : (x : WorldView) (u place : ℕ) (old new : List Bool) (i b : ℕ) (t : Bool) → (i == place) ≡ t → slice_get (numbers x.net.routers) place ≡ Some u → Rests x u
-    → ((other : ℕ) → other ≢ place → slice_get new other ≡ slice_get old other) → AreRestingBeside x u old → slice_get new i ≡ Some true → slice_get (numbers x.net.routers) i ≡ Some b → Rests x b
+marked_by : (x : WorldView) (u place : ℕ) (old new : List Bool) (i b : ℕ) (t : Bool) → (i == place) ≡ t → slice_get (numbers x.net.routers) place ≡ Some u → TurnIsIdle x u
+    → ((other : ℕ) → other ≢ place → slice_get new other ≡ slice_get old other) → TurnsAreIdleBeside x u old → slice_get new i ≡ Some true → slice_get (numbers x.net.routers) i ≡ Some b → TurnIsIdle x b
 marked_by x u place old new i b true e at rest others was mark is =
     let i_is : i ≡ place = eqb-true i place e in
     let both : Some u ≡ Some b = sym at ∙ ap (slice_get (numbers x.net.routers)) (sym i_is) ∙ is in
     let same : u ≡ b = cc in
-    subst (λ (k : ℕ). Rests x k) same rest
+    subst (λ (k : ℕ). TurnIsIdle x k) same rest
 marked_by x u place old new i b false e at rest others was mark is = (was i b (sym (others i (eqb-false i place e)) ∙ mark) is).1
 
 -- a turn that did nothing: its router is marked
-pub resting_marked : (x : WorldView) (u place : ℕ) (old new : List Bool) → slice_get (numbers x.net.routers) place ≡ Some u → Rests x u
-    → ((other : ℕ) → other ≢ place → slice_get new other ≡ slice_get old other) → AreRestingBeside x u old → AreResting x new
+pub resting_marked : (x : WorldView) (u place : ℕ) (old new : List Bool) → slice_get (numbers x.net.routers) place ≡ Some u → TurnIsIdle x u
+    → ((other : ℕ) → other ≢ place → slice_get new other ≡ slice_get old other) → TurnsAreIdleBeside x u old → TurnsAreIdle x new
 resting_marked x u place old new at rest others was i b mark is = marked_by x u place old new i b (i == place) refl at rest others was mark is
 
 -- ---- a router that is woken
 
 -- its number stands at its place
-numbered : (routers : List Router) (place v : ℕ) → place < length routers → HoldsAt (λ r. r.asn ≡ v) routers place → slice_get (numbers routers) place ≡ Some v
+numbered : (routers : List NetRouter) (place v : ℕ) → place < length routers → HoldsAt (λ r. r.asn ≡ v) routers place → slice_get (numbers routers) place ≡ Some v
 numbered [] place v l holds = absurd (omega arith)
 numbered (r ∷ routers) zero v l holds = ap Some (holds r)
 numbered (r ∷ routers) (suc place) v l holds = numbered routers place v (omega arith) holds
 
-pub number_at : (routers : List Router) (place v : ℕ) → (place < length routers) × HoldsAt (λ r. r.asn ≡ v) routers place → slice_get (numbers routers) place ≡ Some v
+pub number_at : (routers : List NetRouter) (place v : ℕ) → (place < length routers) × HoldsAt (λ r. r.asn ≡ v) routers place → slice_get (numbers routers) place ≡ Some v
 number_at routers place v h = numbered routers place v h.0 h.1
 
-pub router_at : (routers : List Router) (i : ℕ) (r : Router) → i < length routers → r ≡ get_or routers i r → slice_get (numbers routers) i ≡ Some r.asn
+pub router_at : (routers : List NetRouter) (i : ℕ) (r : NetRouter) → i < length routers → r ≡ get_or routers i r → slice_get (numbers routers) i ≡ Some r.asn
 router_at [] i r l is = absurd (omega arith)
-router_at (s ∷ routers) zero r l is = ap (λ (k : Router). Some k.asn) (sym is)
+router_at (s ∷ routers) zero r l is = ap (λ (k : NetRouter). Some k.asn) (sym is)
 router_at (s ∷ routers) (suc i) r l is = router_at routers i r (omega arith) is
 
 pub woken_at : (net : Plan) (v place : ℕ) (old new : List Bool) → IsNetwork net → slice_get (numbers net.routers) place ≡ Some v → (slice_get new place ≡ Some true → ⊥)
@@ -289,5 +289,5 @@ woken_at net v place old new is_net at here others i b mark is =
     let away : i ≢ place = λ same. here (subst (λ (k : ℕ). slice_get new k ≡ Some true) same mark) in
     (sym (others i away) ∙ mark, λ same. away (one_place (numbers net.routers) i place v is_net.plan.rising (is ∙ ap Some (sym same)) at))
 
-pub none_rests : (x : WorldView) (marks : List Bool) → ((i : ℕ) → slice_get marks i ≡ Some true → ⊥) → AreResting x marks
+pub none_rests : (x : WorldView) (marks : List Bool) → ((i : ℕ) → slice_get marks i ≡ Some true → ⊥) → TurnsAreIdle x marks
 none_rests x marks none i u mark is = absurd (none i mark)

@@ -5,7 +5,7 @@ use Rattle.std.specs.List.{flat_map}
 use Rattle.std.proofs.Math.Seq.{take-suc}
 use Rattle.std.proofs.lemmas.List.{length-append, length-map, get_or-map, flat_map_more, take-append-drop, take_all}
 use Rattle.std.proofs.lemmas.Grind.{flat_map-append}
-use Rattle.ranked_policy.specs.declared.network.Router.{Router}
+use Rattle.ranked_policy.specs.declared.network.NetRouter.{NetRouter}
 use Rattle.ranked_policy.specs.Plans.{numbers}
 use Rattle.router_model.specs.declared.refusal.Stepped.{Stepped}
 use Rattle.router_model.specs.declared.refusal.Stepped.TheVariants as stepped
@@ -117,7 +117,7 @@ pub repeated_among : (n k all : ℕ) (events : List Event) → (n + 1) + k ≡ a
 repeated_among n k all events is =
     ap (λ l. l ++ repeated k events) (repeated_one n events) ∙ repeated_more (n + 1) k events ∙ ap (λ m. repeated m events) is
 
-pub ticks_are : (routers : List Router) → flat_map (λ r. schedule.Tick r.asn ∷ []) routers ≡ map (λ u. schedule.Tick u) (numbers routers)
+pub ticks_are : (routers : List NetRouter) → flat_map (λ r. schedule.Tick r.asn ∷ []) routers ≡ map (λ u. schedule.Tick u) (numbers routers)
 ticks_are [] = refl
 ticks_are (r ∷ routers) = ap (λ k. schedule.Tick r.asn ∷ k) (ticks_are routers)
 

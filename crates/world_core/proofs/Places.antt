@@ -2,7 +2,7 @@
 use Rattle.std.proofs.Common.{◌≡◌, ℕ, zero, suc, ◌<◌, ◌==◌, Bool, true, false, cond, List, [], ◌∷◌, length, map, refl, ap, sym, ◌∙◌, arith, subst, get_or, set}
 use Rattle.std.specs.List.{AllPairs, AllByRecursion, HoldsAt}
 use Rattle.std.proofs.lemmas.Bool.{eqb-true, eqb-false, eq-eqb, ne_eqb}
-use Rattle.ranked_policy.specs.declared.network.Router.{Router}
+use Rattle.ranked_policy.specs.declared.network.NetRouter.{NetRouter}
 use Rattle.ranked_policy.specs.Plans.{numbers}
 use Rattle.world_core.specs.Views.{at_number, IsAt}
 
@@ -86,18 +86,18 @@ length_map : {A : Type 0} (f : A → ℕ) (xs : List A) → length (map f xs) �
 length_map f [] = refl
 length_map f (x ∷ xs) = ap suc (length_map f xs)
 
-abbrev pub nobody : Router
+abbrev pub nobody : NetRouter
 nobody = record { asn = 0; id = 0; rules = [] }
 
-pub at_place : {A : Type 0} (number : A → ℕ) (xs : List A) (routers : List Router) (u i : ℕ) → map number xs ≡ numbers routers → AllPairs (λ a b. a < b) (numbers routers)
+pub at_place : {A : Type 0} (number : A → ℕ) (xs : List A) (routers : List NetRouter) (u i : ℕ) → map number xs ≡ numbers routers → AllPairs (λ a b. a < b) (numbers routers)
     → i < length routers → HoldsAt (λ r. r.asn ≡ u) routers i → IsAt number xs u i
 at_place {A} number xs routers u i same rising l holds =
-    let many : length (numbers routers) ≡ length routers = length_map (λ (r : Router). r.asn) routers in
+    let many : length (numbers routers) ≡ length routers = length_map (λ (r : NetRouter). r.asn) routers in
     let few : length (map number xs) ≡ length xs = length_map number xs in
     let all : length (map number xs) ≡ length (numbers routers) = ap (λ (ns : List ℕ). length ns) same in
     let inside : i < length xs = omega arith in
     let below : i < length (numbers routers) = omega arith in
-    let at : (a : ℕ) → get_or (numbers routers) i a ≡ u = λ a. default_is (numbers routers) i a 0 below ∙ sym (map_at (λ (r : Router). r.asn) routers i nobody) ∙ holds nobody in
+    let at : (a : ℕ) → get_or (numbers routers) i a ≡ u = λ a. default_is (numbers routers) i a 0 below ∙ sym (map_at (λ (r : NetRouter). r.asn) routers i nobody) ∙ holds nobody in
     first_at number xs u i inside
     (λ d. map_at number xs i d ∙ ap (λ (ns : List ℕ). get_or ns i (number d)) same ∙ at (number d))
     (λ j d k. (let less : get_or (numbers routers) j (number d) < get_or (numbers routers) i (number d) = rising j i (number d) k below in

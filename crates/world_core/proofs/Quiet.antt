@@ -19,7 +19,7 @@ use Rattle.world_core.specs.declared.schedule.Event.{Event}
 use Rattle.world_core.specs.declared.schedule.Event.TheVariants as schedule
 use Rattle.world_core.specs.World.{World, WorldAnswer, Nothing, Gives, of_answer, of_offer, called, taking_of, world_answer}
 use Rattle.world_core.specs.Views.{WorldView, plain_world, routers_of, pipes_of, items_from, IsAt, IsWhole, Answers}
-use Rattle.world_core.specs.Steps.{LinkAt, StandsAt, IsQuiet, IsIdle}
+use Rattle.world_core.specs.Steps.{LinkAt, StandsAt, LinkIsIdle, IsIdle}
 use Rattle.world_core.proofs.Places.{here}
 use Rattle.world_core.proofs.Stepping.{stands, by_router}
 
@@ -65,7 +65,7 @@ items_at x u v i k box p at is_box is_pipe =
 
 pub quiet : (x : WorldView) (u v i k : ℕ) (xr : RouterView) (box : Inbox) (p : Pipe) → IsWhole x → LinkAt x u v i k → xr ≡ get_or x.routers i xr → box ≡ get_or x.inboxes i box → p ≡ get_or box.pipes.items k p
     → p.items.items ≡ [] → ((cut : ℕ) → (linked xr.net xr.number v && (not (is_some (next_item cut (sides_of xr v).outbox)) && not (is_waiting (sides_of xr v).held))) ≡ true)
-    → IsQuiet x u v
+    → LinkIsIdle x u v
 quiet x u v i k xr box p whole at is_router is_box is_pipe none rest =
     let s = stands x u i xr whole at.here is_router in
     let w = plain_world x in

@@ -13,8 +13,8 @@ use Rattle.world_core.specs.declared.schedule.StepFault.{StepFault}
 use Rattle.world_core.specs.declared.schedule.StepFault.TheVariants.{Memory}
 use Rattle.world_core.specs.World.{World, WorldAnswer, Does, Nothing, Stops, Gives, world_answer, world_after, world_of, onward, played}
 use Rattle.world_core.specs.Orders.{StopsAt, IsRefused, with_peer}
-use Rattle.world_core.specs.Resting.{AreRestingBeside}
-use Rattle.world_core.specs.Steps.{IsQuiet, IsIdle}
+use Rattle.world_core.specs.IdleTurns.{TurnsAreIdleBeside}
+use Rattle.world_core.specs.Steps.{LinkIsIdle, IsIdle}
 use Rattle.world_core.specs.Views.{WorldView, plain_world, Answers, Obeys}
 use Rattle.world_core.specs.Watching.{Adds, StepText, EventsText, WantsOr, HaltsAt, WatchesEvents}
 use Rattle.world_core.proofs.Awake.{Spares, beside_own}
@@ -176,7 +176,7 @@ module _ (Says : Event → List ℕ → Type 0) (may : Bool) where
       (k, ([], silent Says g events (plain_world x) (plain_world x) 0 k refl, sym (append-nil old)))
 
   -- two routers between which nothing is to be done
-  pub quiet_over : (x : WorldView) (u v : ℕ) (old : List ℕ) → IsQuiet x u v → WatchesEvents Says may (Ok tt) x (with_peer u v) old x old
+  pub quiet_over : (x : WorldView) (u v : ℕ) (old : List ℕ) → LinkIsIdle x u v → WatchesEvents Says may (Ok tt) x (with_peer u v) old x old
   quiet_over x u v old q =
       passed_over x (with_peer u v) old
       (obeys_behind x x x (event.Put u v ∷ []) (event.Take u v ∷ event.Handle u v ∷ []) (Ok tt) refl (obeys_one x x (event.Put u v) stepped.Nothing q.put)
@@ -193,6 +193,6 @@ module _ (Says : Event → List ℕ → Type 0) (may : Bool) where
 
   -- behind events of one router the others rest as before
   pub own_watched : (x y : WorldView) (u : ℕ) → y.net ≡ x.net → AnswersAreSteps → IsNetwork x.net → (events : List Event) (marks : List Bool) → ((b : ℕ) → u ≢ b → AllByRecursion (Spares b) events)
-      → (r : Result (Unit {0}) StepFault) (old new : List ℕ) → WatchesEvents Says may r x events old y new → AreRestingBeside x u marks → OnOk r (AreRestingBeside y u marks)
+      → (r : Result (Unit {0}) StepFault) (old new : List ℕ) → WatchesEvents Says may r x events old y new → TurnsAreIdleBeside x u marks → OnOk r (TurnsAreIdleBeside y u marks)
   own_watched x y u net law is_net events marks spares (Ok t) old new done was = beside_own x y u net law is_net events marks spares (obeyed x y events old new done) was
   own_watched x y u net law is_net events marks spares (Err why) old new done was = tt

@@ -80,7 +80,7 @@ FindsPlaces r x event =
 -- ---- what is at rest
 
 -- nothing has to be put, taken or handled between the two: each of the three events finds nothing to do
-pub record IsQuiet (x : WorldView) (u v : ℕ) : Type 0 where
+pub record LinkIsIdle (x : WorldView) (u v : ℕ) : Type 0 where
   pub put : Answers (Ok stepped.Nothing) x (schedule.Put u v) x
   pub take : Answers (Ok stepped.Nothing) x (schedule.Take u v) x
   pub handle : Answers (Ok stepped.Nothing) x (schedule.Handle u v) x

@@ -2,12 +2,12 @@
 #![tactic(auto)]
 
 mod counts;
-mod entering;
 pub mod examples;
 mod flags;
+mod idle_turns;
 mod inbox;
 pub mod laws;
-mod marks;
+mod logged_calls;
 mod obeying;
 mod opening;
 mod player;

@@ -5,13 +5,13 @@ ghost use Rattle.ranked_policy.specs.Plans.{numbers};
 ghost use Rattle.router_model.specs.Settings.{peers};
 ghost use Rattle.world_core.specs.declared.schedule.Event.TheVariants.{Put, Take, Handle, Decide, Advertise, Offer};
 ghost use Rattle.world_core.specs.Orders.{with_peer, turn, round, second, repeated, events_of};
-ghost use Rattle.world_core.specs.Resting.{AreResting, AreRestingBeside};
-ghost use Rattle.world_core.specs.Steps.{IsPlaced, FindsPlaces, IsQuiet, IsIdle};
+ghost use Rattle.world_core.specs.IdleTurns.{TurnsAreIdle, TurnsAreIdleBeside};
+ghost use Rattle.world_core.specs.Steps.{IsPlaced, FindsPlaces, LinkIsIdle, IsIdle};
 ghost use Rattle.world_core.specs.Views.{ArePlaced, Answers, Obeys, KeepsPromises};
 ghost use Rattle.world_core.specs.Watching.{WatchesEvents, WatchesRounds, WatchesOrder};
 
+use crate::idle_turns::{is_marked, mark, no_marks};
 use crate::laws::{played_worlds_keep_their_promises, steps_are_replayed};
-use crate::marks::{is_marked, mark, no_marks};
 use crate::schedule::{Event, Order, StepFault};
 use crate::watch::{Unwatched, Watch};
 use crate::world::World;
@@ -102,11 +102,11 @@ impl<'a> World<'a> {
 
     // Gives each router a turn, rising, but for those that rest.
     fn round<W: Watch>(&mut self, marks: &mut Vec<bool>, watcher: &mut W) -> Result<(), StepFault>
-        requires { AreResting self.old marks.old.items }
+        requires { TurnsAreIdle self.old marks.old.items }
         ensures watches { WatchesEvents W.says W.may_want result self.old (round self.old.net) (W.said watcher.old)
             self.new (W.said watcher.new) }
         ensures same { self.new.net ≡ self.old.net }
-        ensures resting { OnOk result (AreResting self.new marks.new.items) }
+        ensures resting { OnOk result (TurnsAreIdle self.new marks.new.items) }
     {
         for (at, router) in self.network().routers().iter().enumerate() {
             self.visit(at, router.asn, marks, watcher)?;
@@ -124,11 +124,11 @@ impl<'a> World<'a> {
         watcher: &mut W,
     ) -> Result<(), StepFault>
         requires router { slice_get (numbers self.old.net.routers) at ≡ Some number }
-        requires resting { AreResting self.old marks.old.items }
+        requires resting { TurnsAreIdle self.old marks.old.items }
         ensures watches { WatchesEvents W.says W.may_want result self.old (turn self.old.net number)
             (W.said watcher.old) self.new (W.said watcher.new) }
         ensures same { self.new.net ≡ self.old.net }
-        ensures resting { OnOk result (AreResting self.new marks.new.items) }
+        ensures resting { OnOk result (TurnsAreIdle self.new marks.new.items) }
     {
         if is_marked(marks.as_slice(), at) {
             return Ok(());
@@ -164,11 +164,11 @@ impl<'a> World<'a> {
         watcher: &mut W,
     ) -> Result<(), StepFault>
         requires router { slice_get (numbers self.old.net.routers) at ≡ Some number }
-        requires resting { AreRestingBeside self.old number marks.old.items }
+        requires resting { TurnsAreIdleBeside self.old number marks.old.items }
         ensures watches { WatchesEvents W.says W.may_want result self.old (turn self.old.net number)
             (W.said watcher.old) self.new (W.said watcher.new) }
         ensures same { self.new.net ≡ self.old.net }
-        ensures resting { OnOk result (AreRestingBeside self.new number marks.new.items) }
+        ensures resting { OnOk result (TurnsAreIdleBeside self.new number marks.new.items) }
     {
         answers_are_steps();
         let network = self.network();
@@ -191,16 +191,16 @@ impl<'a> World<'a> {
         watcher: &mut W,
     ) -> Result<(), StepFault>
         requires placed { ArePlaced self.old.net number peer at place }
-        requires resting { AreRestingBeside self.old number marks.old.items }
+        requires resting { TurnsAreIdleBeside self.old number marks.old.items }
         ensures watches { WatchesEvents W.says W.may_want result self.old (with_peer number peer) (W.said watcher.old)
             self.new (W.said watcher.new) }
         ensures same { self.new.net ≡ self.old.net }
-        ensures resting { OnOk result (AreRestingBeside self.new number marks.new.items) }
+        ensures resting { OnOk result (TurnsAreIdleBeside self.new number marks.new.items) }
     {
         answers_are_steps();
         let network = self.network();
         let _ = network.built();
-        if self.is_quiet_at(at, place, number, peer) {
+        if self.link_is_idle_at(at, place, number, peer) {
             return Ok(());
         }
         self.put(at, number, place, peer, marks, watcher)?;
@@ -237,11 +237,11 @@ impl<'a> World<'a> {
         watcher: &mut W,
     ) -> Result<(), StepFault>
         requires placed { ArePlaced self.old.net number peer at place }
-        requires resting { AreRestingBeside self.old number marks.old.items }
+        requires resting { TurnsAreIdleBeside self.old number marks.old.items }
         ensures watches { WatchesEvents W.says W.may_want result self.old (Put number peer ∷ []) (W.said watcher.old)
             self.new (W.said watcher.new) }
         ensures same { self.new.net ≡ self.old.net }
-        ensures resting { OnOk result (AreRestingBeside self.new number marks.new.items) }
+        ensures resting { OnOk result (TurnsAreIdleBeside self.new number marks.new.items) }
     {
         answers_are_steps();
         let network = self.network();
@@ -328,12 +328,12 @@ impl<'a> World<'a> {
 
     // Whether nothing has to be put, taken or handled between a router and a peer. The router stands at the place `at`
     // of the network, and the peer at the place `place` among its peers.
-    fn is_quiet_at(&self, at: usize, place: usize, number: Asn, peer: Asn) -> bool
+    fn link_is_idle_at(&self, at: usize, place: usize, number: Asn, peer: Asn) -> bool
         requires { ArePlaced self.now.net number peer at place }
-        ensures { result ≡ true → IsQuiet self.now number peer }
+        ensures { result ≡ true → LinkIsIdle self.now number peer }
     {
         linked_routers_are_peers();
-        self.state.is_quiet_at(at, place, number, peer)
+        self.state.link_is_idle_at(at, place, number, peer)
     }
 
     // Whether it is seen without a look at a path that a router has nothing to decide, nobody to tell and nothing to

@@ -6,10 +6,10 @@ ghost use Rattle.world_core.specs.declared.schedule.Event.TheVariants.{Put, Take
 ghost use Rattle.router_model.specs.Settings.{peers};
 ghost use Rattle.router_core.specs.Calling.{call_of};
 ghost use Rattle.world_core.specs.Views.{IsWhole, Answers, IsNoRouter, IsRouterOf, comes_next, NothingComes};
-ghost use Rattle.world_core.specs.Steps.{view_of, IsSameNet, Asks, StandsAt, LinkAt, IsPlaceOf, FindsLink, IsPlaced, FindsPlaces, IsQuiet, IsIdle};
+ghost use Rattle.world_core.specs.Steps.{view_of, IsSameNet, Asks, StandsAt, LinkAt, IsPlaceOf, FindsLink, IsPlaced, FindsPlaces, LinkIsIdle, IsIdle};
 
-use crate::entering::{enter, enter_handle, enter_offer, enter_put, enter_take};
 use crate::inbox::{Inbox, Pipe, place_of};
+use crate::logged_calls::{enter, enter_handle, enter_offer, enter_put, enter_take};
 use crate::schedule::{Event, StepFault};
 use outbox::Item;
 use ranked_policy::{Asn, Network};
@@ -195,13 +195,13 @@ impl<'a> State<'a> {
 
     /// Whether nothing has to be put, taken or handled between a router and a peer. The router and the pipe from the
     /// peer stand at these places.
-    pub fn is_quiet_at(&self, at: usize, pipe: usize, number: Asn, peer: Asn) -> bool
+    pub fn link_is_idle_at(&self, at: usize, pipe: usize, number: Asn, peer: Asn) -> bool
         requires whole { IsWhole (view_of self.now) }
         requires link { LinkAt (view_of self.now) number peer at pipe }
-        ensures { result ≡ true → IsQuiet (view_of self.now) number peer }
+        ensures { result ≡ true → LinkIsIdle (view_of self.now) number peer }
     {
         match self.inboxes[at].pipes[pipe].items.front() {
-            None => self.routers[at].is_quiet_at(pipe, peer),
+            None => self.routers[at].link_is_idle_at(pipe, peer),
             Some(_) => false,
         }
     }

@@ -78,7 +78,7 @@ static NOTICES: [(usize, Option<usize>); 2] = [(4075, Some(4096)), (4076, None)]
 
 // The longest NOTIFICATION is written, and one octet more is refused with the vector as it was.
 #[test]
-fn the_longest_message(rt: HostRuntime) -> Result<(), Fail> {
+fn the_longest_notification_is_written(rt: HostRuntime) -> Result<(), Fail> {
     for &(len, wanted) in &NOTICES {
         let mut out = vec![in rt.alloc(); 7u8]?;
         let message = notice_with(rt.alloc(), len)?;
@@ -88,7 +88,7 @@ fn the_longest_message(rt: HostRuntime) -> Result<(), Fail> {
 }
 
 #[test]
-fn octets_in_place_and_in_memory(rt: HostRuntime) -> Result<(), Fail> {
+fn octets_are_kept_in_place_and_in_memory(rt: HostRuntime) -> Result<(), Fail> {
     let long = [9u8; 17];
     let octets = Octets::from_slice(rt.alloc(), &long)?;
     assert!(rt; octets.as_slice() == long.as_slice());
@@ -106,7 +106,7 @@ fn items_stand_alone_or_in_a_block(rt: HostRuntime) -> Result<(), Fail> {
 
 // Calls each law once.
 #[test]
-fn each_law_holds() {
+fn each_law_holds_at_a_type() {
     laws::one_message_or_fault();
     laws::written_is_spelt();
     laws::written_is_read();

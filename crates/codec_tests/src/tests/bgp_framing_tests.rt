@@ -52,7 +52,7 @@ fn feed_octets(rt: &impl Abort, framer: &mut Framer) {
 }
 
 #[test]
-fn one_octet_at_a_time(rt: HostRuntime) -> Result<(), Fail> {
+fn a_message_is_framed_octet_by_octet(rt: HostRuntime) -> Result<(), Fail> {
     let mut framer = Framer::new(rt.alloc())?;
     feed_octets(&rt, &mut framer);
     Ok(())
@@ -65,7 +65,7 @@ fn feed_in_two(rt: &impl Abort, framer: &mut Framer, front: &[u8], back: &[u8]) 
 }
 
 #[test]
-fn each_cut_into_two_pieces(rt: HostRuntime) -> Result<(), Fail> {
+fn a_message_is_framed_from_any_two_pieces(rt: HostRuntime) -> Result<(), Fail> {
     for cut in 1..19usize {
         let mut framer = Framer::new(rt.alloc())?;
         let (front, back) = KEEPALIVE.split_at(cut);
@@ -164,7 +164,7 @@ fn octets_without_a_framer(rt: HostRuntime) {
 
 // Calls each law once.
 #[test]
-fn each_law_holds() {
+fn each_law_holds_at_a_type() {
     laws::splits_once();
     laws::splits_in_pieces();
     laws::splits_behind_a_frame();

@@ -112,7 +112,7 @@ fn put_pieces(rt: &impl Abort, outbox: &mut Outbox, cut: usize, pieces: u32, las
 
 // Three messages of 19 octets in pieces of 1, 18 and 4096.
 #[test]
-fn pieces_of_every_cut(rt: HostRuntime) {
+fn messages_are_put_in_pieces_of_every_cut(rt: HostRuntime) {
     for &(cut, pieces, last) in &CUTS {
         let mut outbox = Outbox::new(rt.alloc());
         assert!(rt; push_several(&mut outbox, 1, 3).is_ok());

@@ -206,7 +206,7 @@ static NUMBERS: [Number; 9] = [
 
 fn dials(rt: &impl Abort, end: &mut LinkEnd, row: &Number) {
     let before = *end;
-    let joins = end.is_awaited();
+    let joins = end.is_joinable();
     assert!(rt; end.dial() == row.want, "{}", row.name);
     match row.want {
         Ok(dialled) => {
@@ -291,7 +291,7 @@ fn each_sign_means_what_its_phase_says(rt: HostRuntime) {
 }
 
 #[test]
-fn each_law_holds() {
+fn each_law_holds_at_a_type() {
     epoch_is_greatest_dialled();
     numbers_dialled_rise();
     heard_is_greatest_heard();

@@ -35,7 +35,7 @@ fn ones_with(octet: u8, at: usize) -> [u8; 100] {
 static FEW_ONES: [(&[u8], usize); 3] = [(&[], 0), (&[0xff; 17], 17), (&[0xff, 0xff, 0, 0xff], 2)];
 
 #[test]
-fn runs_of_ones(rt: HostRuntime) {
+fn runs_of_ones_are_counted(rt: HostRuntime) {
     for &(octets, want) in &FEW_ONES {
         assert!(rt; ones_run(octets) == want);
     }

@@ -172,7 +172,7 @@ fn masks_of_count(rt: &impl Abort, count: usize)
 
 /// Each count of addresses 0 to 40.
 #[test]
-fn masks_of_each_count(rt: HostRuntime) {
+fn masks_of_each_count_are_made(rt: HostRuntime) {
     for count in 0..=40usize {
         masks_of_count(&rt, count);
     }
@@ -286,7 +286,7 @@ fn answers_alike(rt: &impl Abort, table: &CoverTable) {
 /// Each count of entries 0 to 64: the lengths repeat, so that the first among equals stands before,
 /// in and behind the eight of a longer one.
 #[test]
-fn longest_of_each_count(rt: HostRuntime) {
+fn the_longest_of_each_count_is_found(rt: HostRuntime) {
     let mut table = CoverTable::new(rt.alloc());
     answers_alike(&rt, &table);
     for i in 0..64u32 {
@@ -319,7 +319,7 @@ fn an_entry_past_the_64th_is_refused(rt: HostRuntime) {
 }
 
 #[test]
-fn each_law_holds() {
+fn each_law_holds_at_a_type() {
     a_prefix_is_its_bits();
     masking_clears_bits();
     the_longest_is_one();

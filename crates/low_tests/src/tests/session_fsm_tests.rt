@@ -52,7 +52,7 @@ fn stay_quiet(rt: &impl Abort, session: &mut Session, ticks: usize, name: &str) 
 }
 
 #[test]
-fn each_law_holds() {
+fn each_law_holds_at_a_type() {
     updates_act_in_established_alone();
     up_and_down_take_turns();
     nothing_is_acted_on_after_a_close();

@@ -161,7 +161,7 @@ fn a_first_read_fails(rt: HostRuntime) -> Result<(), Fail> {
 }
 
 #[test]
-fn the_status_of_a_failure(rt: HostRuntime) -> Result<(), Fail> {
+fn a_failure_has_its_status(rt: HostRuntime) -> Result<(), Fail> {
     assert!(rt; status_of(Err(IoStopped)) == 4);
     assert!(rt; status_of(Ok(1)) == 1);
     Ok(())

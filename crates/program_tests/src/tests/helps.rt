@@ -90,7 +90,7 @@ fn is_as_its_help_says<R: Threads + Wait + Sync>(
 }
 
 #[test]
-fn each_example_of_a_help(rt: HostRuntime) -> Result<(), Fail> {
+fn each_example_is_as_its_help_says(rt: HostRuntime) -> Result<(), Fail> {
     for &(words, help, status) in &HELPS {
         assert!(rt;
             is_as_its_help_says(&rt, rt.alloc(), words, help, status)?,
@@ -107,7 +107,7 @@ fn has_example(alloc: Global, help: &str, input: &str, text: &str) -> Result<boo
 
 // The timing of threads decides what `run` prints, so its example is compared alone.
 #[test]
-fn the_example_of_run(rt: HostRuntime) -> Result<(), Fail> {
+fn the_help_of_run_has_its_example(rt: HostRuntime) -> Result<(), Fail> {
     assert!(rt; has_example(rt.alloc(), RUN_HELP, PAIR, BOTH)?);
     Ok(())
 }
@@ -131,7 +131,7 @@ fn begins_with<R: Threads + Wait + Sync>(
 
 // What comes behind the first order is decided by the threads.
 #[test]
-fn the_example_of_record(rt: HostRuntime) -> Result<(), Fail> {
+fn the_help_of_record_has_its_example(rt: HostRuntime) -> Result<(), Fail> {
     let alloc = rt.alloc();
     let begun = format!(in alloc; "{PAIR}{BEGUN}")?;
     let shown = format!(in alloc; "{PAIR}{PAIR}{BEGUN}")?;

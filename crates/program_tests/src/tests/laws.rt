@@ -11,7 +11,7 @@ use why_engine::laws::each_router_has_one_text;
 
 // Calls each law once.
 #[test]
-fn laws_are_called() {
+fn each_law_holds_at_a_type() {
     decode_prints_one_text();
     check_prints_one_text();
     each_router_has_one_text();

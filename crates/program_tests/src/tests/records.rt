@@ -156,7 +156,7 @@ fn has_text<R: Threads + Wait + Sync>(
 
 // By stamp, then by router.
 #[test]
-fn the_text_of_a_record(rt: HostRuntime) -> Result<(), Fail> {
+fn a_record_is_written_by_stamp_then_by_router(rt: HostRuntime) -> Result<(), Fail> {
     let alloc = rt.alloc();
     let prefix = Prefix::new(0x0a01_0000, 16).ok_or("a prefix")?;
     let lines = NETWORKS[0];

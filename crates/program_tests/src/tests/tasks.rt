@@ -3,7 +3,7 @@
 use bgp_codec::Rule;
 use bgp_values::Width;
 use command_line::{Asked, Task, ThreadTask, read_words, run_task, run_thread_task};
-use stable_search::Limits;
+use stable_search::SearchLimits;
 use std::alloc::Global;
 use std::sync::Wait;
 use std::test::Fail;
@@ -77,7 +77,7 @@ fn written(alloc: Global, words: &[&str], input: &str) -> (Vec<u8>, Option<u8>) 
 }
 
 #[test]
-fn words_without_threads(rt: HostRuntime) -> Result<(), Fail> {
+fn words_without_threads_write_their_answers(rt: HostRuntime) -> Result<(), Fail> {
     for row in &ROWS {
         let (out, got) = written(rt.alloc(), row.words, row.input);
         assert!(rt; got == Some(row.status));
@@ -87,7 +87,7 @@ fn words_without_threads(rt: HostRuntime) -> Result<(), Fail> {
 }
 
 #[test]
-fn numbers_of_words(rt: HostRuntime) -> Result<(), Fail> {
+fn numbers_of_words_are_read(rt: HostRuntime) -> Result<(), Fail> {
     let alloc = rt.alloc();
     let decode = ["decode", "--asn", "4", "--peer", "70000"];
     assert!(rt;
@@ -105,7 +105,7 @@ fn numbers_of_words(rt: HostRuntime) -> Result<(), Fail> {
     assert!(rt;
         matches!(
             read_words(alloc, &["stable"])?,
-            Asked::Task(Task::Stable(Limits {
+            Asked::Task(Task::Stable(SearchLimits {
                 most: 1_000,
                 steps: 10_000_000
             }))
@@ -115,7 +115,7 @@ fn numbers_of_words(rt: HostRuntime) -> Result<(), Fail> {
     assert!(rt;
         matches!(
             read_words(alloc, &stable)?,
-            Asked::Task(Task::Stable(Limits { most: 9, steps: 10 }))
+            Asked::Task(Task::Stable(SearchLimits { most: 9, steps: 10 }))
         )
     );
     assert!(rt;
@@ -167,7 +167,7 @@ fn written_by_threads<R: Threads + Wait + Sync>(
 }
 
 #[test]
-fn words_of_threads(rt: HostRuntime) -> Result<(), Fail> {
+fn words_of_threads_write_their_answers(rt: HostRuntime) -> Result<(), Fail> {
     let options = RunOptions {
         turns: 100,
         snapshots: 1,

@@ -22,7 +22,7 @@ use bgp_codec::Message;
 use ranked_policy::Asn;
 use rib_tables::Rib;
 use router_model::{RouterError, Stepped};
-use router_side::{Given, SideEnd, Sketch};
+use router_side::{Brought, SideDraft, SideEnd};
 use run_model::GREATEST_STAMP;
 use snap_marker::MarkState;
 use std::alloc::{AllocError, Global};
@@ -42,7 +42,7 @@ pub(super) fn carry(
     tables: &mut Rib<'_>,
     peer: Asn,
     own_open: &Message,
-    made: &Sketch,
+    made: &SideDraft,
 )
     requires linked { Linked tables.old.net.links tables.old.router peer }
     requires own { (w : widths.Width) → IsSayable w own_open.now }
@@ -64,8 +64,8 @@ pub(super) fn carry_front(
     tables: &mut Rib<'_>,
     peer: Asn,
     own_open: &Message,
-    given: Given,
-    made: &Sketch,
+    given: Brought,
+    made: &SideDraft,
 )
     requires linked { Linked tables.old.net.links tables.old.router peer }
     requires own { (w : widths.Width) → IsSayable w own_open.now }
@@ -101,7 +101,7 @@ impl Router<'_> {
         &mut self,
         peer: Asn,
         at: usize,
-        made: &Sketch,
+        made: &SideDraft,
         overflows: bool,
         stamp: u64,
         room: Result<(), AllocError>,
@@ -122,7 +122,7 @@ impl Router<'_> {
         }
         room?;
         let alloc = *self.peers.allocator();
-        let nothing = Given::Nothing;
+        let nothing = Brought::Nothing;
         let end = &mut self.peers[at].end;
         if end.reserve(&self.own_open, &nothing, made).is_err() {
             return Err(RouterError::Memory);

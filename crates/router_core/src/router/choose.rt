@@ -5,10 +5,10 @@ ghost use Rattle.router_model.specs.Calls.{Decide, Advertise};
 ghost use Rattle.router_core.specs.Views.{IsSame, Answers, IsAt, IsNamedAt, IsNext, MayTell, Tells};
 ghost use Rattle.router_core.specs.Calling.{NeedsRoom};
 
-use super::{Router, next_stamp_in};
-use crate::choices::the_best_is_the_route;
+use super::{Router, next_stamp_with_room};
+use crate::best_path::the_best_is_the_best_path;
+use crate::path_to_tell::path_to_tell;
 use crate::peers::Peer;
-use crate::telling::telling;
 use prefix_lanes::Prefix;
 use ranked_policy::Asn;
 use router_model::{OUTBOX_LIMIT, RouterError, Stepped};
@@ -34,17 +34,20 @@ impl Router<'_> {
         ensures answers { Answers result self.old Decide self.new }
         ensures same { IsSame self.old self.new }
     {
-        self.decide_in(Ok(()))
+        self.decide_with_room(Ok(()))
     }
 
     // Does what `decide` does; if the caller has no room for the event, no step is done.
-    pub(super) fn decide_in(&mut self, room: Result<(), AllocError>) -> Result<Stepped, RouterError>
+    pub(super) fn decide_with_room(
+        &mut self,
+        room: Result<(), AllocError>,
+    ) -> Result<Stepped, RouterError>
         ensures answers { Answers result self.old Decide self.new }
         ensures full { NeedsRoom result room }
         ensures same { IsSame self.old self.new }
     {
-        the_best_is_the_route(&self.tables);
-        let stamp = match next_stamp_in(self.stamp, room) {
+        the_best_is_the_best_path(&self.tables);
+        let stamp = match next_stamp_with_room(self.stamp, room) {
             Ok(stamp) => stamp,
             Err(why) => {
                 let Some(_) = self.tables.dirty() else {
@@ -68,7 +71,7 @@ impl Router<'_> {
     pub(super) fn next_to_tell(&self) -> Next
         ensures { IsNext self.now result }
     {
-        if !self.tables.is_awaited() {
+        if !self.tables.has_waiting_peer() {
             return Next::Nobody;
         }
         let mut blocked = None;
@@ -99,11 +102,11 @@ impl Router<'_> {
         ensures answers { Answers result self.old Advertise self.new }
         ensures same { IsSame self.old self.new }
     {
-        self.advertise_in(Ok(()))
+        self.advertise_with_room(Ok(()))
     }
 
     // Does what `advertise` does; if the caller has no room for the event, no step is done.
-    pub(super) fn advertise_in(
+    pub(super) fn advertise_with_room(
         &mut self,
         room: Result<(), AllocError>,
     ) -> Result<Stepped, RouterError>
@@ -132,9 +135,9 @@ impl Router<'_> {
         ensures full { NeedsRoom result room }
         ensures same { IsSame self.old self.new }
     {
-        let stamp = next_stamp_in(self.stamp, room)?;
+        let stamp = next_stamp_with_room(self.stamp, room)?;
         let alloc = *self.peers.allocator();
-        let Ok(route) = telling(
+        let Ok(route) = path_to_tell(
             alloc,
             self.network,
             self.number,
@@ -144,13 +147,13 @@ impl Router<'_> {
             return Err(RouterError::Memory);
         };
         let Peer { number, end } = &mut self.peers[at];
-        let Ok(()) = end.reserve_route(&route) else {
+        let Ok(()) = end.reserve_path(&route) else {
             return Err(RouterError::Memory);
         };
         let Ok(()) = self.tables.tell_at(at, *number, place, prefix) else {
             return Err(RouterError::Memory);
         };
-        end.tell_route(&route);
+        end.tell_path(&route);
         self.stamp = stamp;
         Ok(Stepped::Did)
     }

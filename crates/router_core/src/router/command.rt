@@ -5,7 +5,7 @@ ghost use Rattle.router_model.specs.declared.command.Command.TheVariants.{Start,
 ghost use Rattle.router_core.specs.Views.{IsSame, Answers};
 ghost use Rattle.router_core.specs.Calling.{call_of, NeedsRoom};
 
-use super::{Call, Router, next_stamp_in};
+use super::{Call, Router, next_stamp_with_room};
 use prefix_lanes::Prefix;
 use ranked_policy::Asn;
 use router_model::{Command, RouterError, Stepped};
@@ -24,11 +24,11 @@ impl Router<'_> {
         ensures answers { Answers result self.old (Obey command) self.new }
         ensures same { IsSame self.old self.new }
     {
-        self.command_in(command, Ok(()))
+        self.command_with_room(command, Ok(()))
     }
 
     // Does what `command` does; if the caller has no room for the event, no step is done.
-    fn command_in(
+    fn command_with_room(
         &mut self,
         command: Command,
         room: Result<(), AllocError>,
@@ -63,11 +63,11 @@ impl Router<'_> {
         ensures same { IsSame self.old self.new }
     {
         match call {
-            Call::Obey(command) => self.command_in(*command, room),
-            Call::Tick => self.tick_in(room),
-            Call::Handle(peer) => self.handle_in(*peer, room),
-            Call::Decide => self.decide_in(room),
-            Call::Advertise => self.advertise_in(room),
+            Call::Obey(command) => self.command_with_room(*command, room),
+            Call::Tick => self.tick_with_room(room),
+            Call::Handle(peer) => self.handle_with_room(*peer, room),
+            Call::Decide => self.decide_with_room(room),
+            Call::Advertise => self.advertise_with_room(room),
         }
     }
 
@@ -83,7 +83,7 @@ impl Router<'_> {
         };
         let made = self.peers[at]
             .end
-            .meet(&self.own_open, FsmEvent::ManualStart);
+            .draft_event(&self.own_open, FsmEvent::ManualStart);
         let (overflows, stamp) = (made.overflows, self.stamp + 1);
         self.carry_out(peer, at, &made, overflows, stamp, room)
     }
@@ -100,7 +100,7 @@ impl Router<'_> {
         };
         let made = self.peers[at]
             .end
-            .meet(&self.own_open, FsmEvent::ManualStop);
+            .draft_event(&self.own_open, FsmEvent::ManualStop);
         let stamp = self.stamp + 1;
         self.carry_out(peer, at, &made, false, stamp, room)
     }
@@ -115,7 +115,7 @@ impl Router<'_> {
         let Some(at) = self.find(peer) else {
             return Err(RouterError::NoSuchPeer);
         };
-        let made = self.peers[at].end.reset(&self.own_open);
+        let made = self.peers[at].end.draft_reset(&self.own_open);
         let (overflows, stamp) = (made.overflows, self.stamp + 1);
         self.carry_out(peer, at, &made, overflows, stamp, room)
     }
@@ -136,7 +136,7 @@ impl Router<'_> {
         if self.tables.is_originated(prefix) {
             return Ok(Stepped::Nothing);
         }
-        let stamp = next_stamp_in(self.stamp, room)?;
+        let stamp = next_stamp_with_room(self.stamp, room)?;
         self.tables.originate(prefix);
         self.stamp = stamp;
         Ok(Stepped::Did)
@@ -158,7 +158,7 @@ impl Router<'_> {
         if !self.tables.is_originated(prefix) {
             return Ok(Stepped::Nothing);
         }
-        let stamp = next_stamp_in(self.stamp, room)?;
+        let stamp = next_stamp_with_room(self.stamp, room)?;
         self.tables.withdraw(prefix);
         self.stamp = stamp;
         Ok(Stepped::Did)

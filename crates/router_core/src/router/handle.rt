@@ -21,14 +21,14 @@ ghost use Rattle.router_core.specs.Calling.{NeedsRoom};
 ghost use Rattle.router_core.specs.Handling.{update_acted, copy_where, seen_where, Hears, HandlesFront};
 
 use super::carry::{carry_front, close};
-use super::{Router, next_stamp_in};
+use super::{Router, next_stamp_with_room};
 use bgp_codec::{Message, Rule, Update};
 use ranked_policy::Asn;
 use rib_tables::Rib;
 use rib_tables::laws::the_word_follows;
 use router_model::{RouterError, Stepped};
 use router_side::laws::{updates_are_acted_on, what_comes_keeps_fresh};
-use router_side::{Given, Route, SideEnd, opened};
+use router_side::{Brought, SideEnd, ToldPath, opened};
 use snap_marker::MarkState;
 use std::alloc::{AllocError, Global};
 
@@ -38,7 +38,7 @@ fn copy_for(
     marks: &mut MarkState,
     peer: Asn,
     acts: bool,
-    given: &Given,
+    given: &Brought,
 ) -> Result<Option<Update>, AllocError>
     ensures copy { IfOk result
         (λ copy. copy ≡ copy_where marks.new.unfinished peer (update_acted acts (hand given.now))) }
@@ -52,16 +52,16 @@ fn copy_for(
         return Ok(None);
     }
     match given {
-        Given::Update(update) => match marks.copy_update(alloc, peer, update) {
+        Brought::Update(update) => match marks.copy_update(alloc, peer, update) {
             Ok(copy) => Ok(copy),
             Err(_) => Err(AllocError),
         },
-        Given::Nothing | Given::Fault(_) => Ok(None),
+        Brought::Nothing | Brought::Fault(_) => Ok(None),
     }
 }
 
 // Lets the tables take the UPDATE that is acted on.
-fn hear(tables: &mut Rib<'_>, peer: Asn, acts: bool, given: &Given) -> Result<(), AllocError>
+fn hear(tables: &mut Rib<'_>, peer: Asn, acts: bool, given: &Brought) -> Result<(), AllocError>
     requires { Linked tables.old.net.links tables.old.router peer }
     ensures ok { OnOk result (Hears tables.old tables.new peer (update_acted acts (hand given.now))) }
     ensures err { OnErr result (tables.new ≡ tables.old) }
@@ -70,11 +70,11 @@ fn hear(tables: &mut Rib<'_>, peer: Asn, acts: bool, given: &Given) -> Result<()
         return Ok(());
     }
     match given {
-        Given::Update(update) => match tables.hear(peer, update) {
+        Brought::Update(update) => match tables.hear(peer, update) {
             Ok(()) => Ok(()),
             Err(_) => Err(AllocError),
         },
-        Given::Nothing | Given::Fault(_) => Ok(()),
+        Brought::Nothing | Brought::Fault(_) => Ok(()),
     }
 }
 
@@ -101,7 +101,7 @@ fn act_on(
     tables: &mut Rib<'_>,
     at: usize,
     peer: Asn,
-    route: &Route,
+    route: &ToldPath,
 ) -> Result<(), AllocError>
     requires stands { slice_get (peers tables.old.net tables.old.router) at ≡ Some peer }
     requires up { is_up (side end.old) ≡ true }
@@ -114,11 +114,11 @@ fn act_on(
     ensures tables { OnErr result (tables.new ≡ tables.old) }
 {
     end.reserve_acting()?;
-    let (prefix, path) = route.told();
+    let (prefix, path) = route.prefix_and_path();
     let Ok(()) = tables.hear_path_at(at, peer, prefix, path) else {
         return Err(AllocError);
     };
-    end.act();
+    end.act_on_front();
     Ok(())
 }
 
@@ -151,7 +151,7 @@ fn handle_front(
     updates_are_acted_on();
     // most are UPDATEs as a router tells them, and are not recorded
     if end.is_up() && marks.unfinished().is_none() {
-        if let Some(route) = end.route_in_front(alloc, peer)? {
+        if let Some(route) = end.path_in_front(alloc, peer)? {
             return act_on(end, tables, at, peer, &route);
         }
     }
@@ -186,7 +186,7 @@ fn handle_by_draft(
 {
     let read = end.front(alloc, rule)?;
     let (event, given) = opened(read);
-    let made = end.handle(own_open, &given, event);
+    let made = end.draft_message(own_open, &given, event);
     end.reserve(own_open, &given, &made)?;
     let copy = copy_for(alloc, marks, peer, made.acts, &given)?;
     hear(tables, peer, made.acts, &given)?;
@@ -207,11 +207,11 @@ impl Router<'_> {
         ensures answers { Answers result self.old (Handle peer) self.new }
         ensures same { IsSame self.old self.new }
     {
-        self.handle_in(peer, Ok(()))
+        self.handle_with_room(peer, Ok(()))
     }
 
     // Does what `handle` does; if the caller has no room for the event, no step is done.
-    pub(super) fn handle_in(
+    pub(super) fn handle_with_room(
         &mut self,
         peer: Asn,
         room: Result<(), AllocError>,
@@ -248,7 +248,7 @@ impl Router<'_> {
         if !self.peers[at].end.is_waiting() {
             return Ok(Stepped::Nothing);
         }
-        let stamp = next_stamp_in(self.stamp, room)?;
+        let stamp = next_stamp_with_room(self.stamp, room)?;
         let alloc = *self.peers.allocator();
         let rule = Rule {
             width: self.network.settings().width,

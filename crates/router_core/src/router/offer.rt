@@ -10,7 +10,7 @@ ghost use Rattle.run_model.specs.declared.stamps.TheConstants.{GREATEST_STAMP};
 ghost use Rattle.router_core.specs.Views.{plain_of, Answers, IsOffered, HasOffer, IsSame};
 
 use super::Router;
-use crate::choices::the_best_is_the_route;
+use crate::best_path::the_best_is_the_best_path;
 use snap_collector::Collector;
 use snap_marker::Offer;
 use std::alloc::AllocError;
@@ -31,8 +31,8 @@ impl Router<'_> {
         ensures advertise { result ≡ true → Answers (Ok Nothing) self.now Advertise self.now }
         ensures offer { result ≡ true → next_offer (plain_of self.now).router ≡ None }
     {
-        the_best_is_the_route(&self.tables);
-        self.tables.rests() && self.next_offer().is_none()
+        the_best_is_the_best_path(&self.tables);
+        self.tables.has_nothing_to_do() && self.next_offer().is_none()
     }
 
     /// Makes the offer in front, by an event with this stamp. It takes no memory, and cannot be refused.

@@ -7,15 +7,15 @@ ghost use Rattle.router_model.specs.declared.refusal.RouterError.TheVariants.{Me
 ghost use Rattle.router_model.specs.declared.command.Command.TheVariants.{Snapshot};
 ghost use Rattle.router_model.specs.Sides.{is_up, uses};
 ghost use Rattle.router_side.specs.SideOf.{side};
-ghost use Rattle.router_model.specs.Step.{awaits};
+ghost use Rattle.router_model.specs.Step.{awaits_marker};
 ghost use Rattle.router_model.specs.Calls.{Obey};
 ghost use Rattle.run_model.specs.declared.stamps.TheConstants.{GREATEST_STAMP};
 ghost use Rattle.router_core.specs.Views.{plain_of, Answers, IsFound, IsNamedAt, IsSame, TakesMark};
 ghost use Rattle.router_core.specs.Calling.{NeedsRoom};
 ghost use Rattle.router_core.specs.Recorded.{paths_of, own_of, channels_of, down_in, Become, HaveRoomToMark, marked_if_up, IsPart, IsPeer, IsStateOf, Records, RecordsAt};
 
-use super::{Router, next_stamp_in};
-use crate::choices::the_best_is_the_route;
+use super::{Router, next_stamp_with_room};
+use crate::best_path::the_best_is_the_best_path;
 use crate::peers::Peer;
 use prefix_lanes::Prefix;
 use ranked_policy::{Asn, Origin, Path};
@@ -74,8 +74,8 @@ fn originated(
 }
 
 // Whether the marker of a peer is still to come, if that of `first` came.
-fn awaits(first: Option<Asn>, peer: Asn) -> bool
-    ensures { result ≡ awaits first peer }
+fn awaits_marker(first: Option<Asn>, peer: Asn) -> bool
+    ensures { result ≡ awaits_marker first peer }
 {
     match first {
         None => true,
@@ -93,7 +93,7 @@ fn channels(alloc: Global, peers: &[Peer], first: Option<Asn>) -> Result<Vec<Cha
         made.push(Channel {
             peer: peer.number,
             epoch: peer.end.epoch(),
-            is_open: awaits(first, peer.number),
+            is_open: awaits_marker(first, peer.number),
             updates: Vec::new(alloc),
         })?;
     }
@@ -202,7 +202,7 @@ impl Router<'_> {
         ensures same { IsSame self.old self.new }
     {
         linked_routers_are_peers();
-        the_best_is_the_route(&self.tables);
+        the_best_is_the_best_path(&self.tables);
         let origins = self.network.origins();
         let peers = self.peers.as_slice();
         let part = part_now(
@@ -234,7 +234,7 @@ impl Router<'_> {
         ensures { MatchResult result (IsStateOf self.now) (λ why. why ≡ Memory) }
     {
         linked_routers_are_peers();
-        the_best_is_the_route(&self.tables);
+        the_best_is_the_best_path(&self.tables);
         let alloc = *self.peers.allocator();
         let origins = self.network.origins();
         let peers = self.peers.as_slice();
@@ -281,7 +281,7 @@ impl Router<'_> {
         if number <= last {
             return Err(RouterError::OldSnapshot { last });
         }
-        let stamp = next_stamp_in(self.stamp, room)?;
+        let stamp = next_stamp_with_room(self.stamp, room)?;
         self.records(number, None, stamp)
     }
 

@@ -104,7 +104,7 @@ impl Router<'_> {
         ensures same { IsSame self.old self.new }
     {
         what_comes_keeps_fresh();
-        let made = self.peers[at].end.sign(&self.own_open, sign);
+        let made = self.peers[at].end.draft_sign(&self.own_open, sign);
         let overflows = made.overflows;
         self.carry_out(peer, at, &made, overflows, stamp, room)
     }

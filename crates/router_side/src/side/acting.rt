@@ -25,7 +25,7 @@ impl SideEnd {
 
     /// The UPDATE in front is acted on in Established, for which there is room: it joins those acted on, and the
     /// HoldTimer is set again (RFC 4271 section 8.2.2). That is all that its draft does. It takes no memory.
-    pub fn act(&mut self)
+    pub fn act_on_front(&mut self)
         requires up { is_up (side self.old) ≡ true }
         requires room { HasRoomToAct self.old }
         requires waits { is_waiting (side self.old).held ≡ true }

@@ -16,9 +16,9 @@ ghost use Rattle.router_side.specs.Histories.{history, told_with};
 ghost use Rattle.router_side.specs.SideOf.{side, IsInFront, HasRoom, KeepsRoom};
 
 use super::SideEnd;
-use crate::at_hand::Given;
-use crate::draft::Sketch;
-use crate::enqueue::{append_all, size_of_all, size_told};
+use crate::append::{append_all, size_of_all, size_told};
+use crate::brought::Brought;
+use crate::draft::SideDraft;
 use crate::history::History;
 use bgp_codec::laws::header_is_its_front;
 use bgp_codec::{Message, written_len};
@@ -32,8 +32,8 @@ impl SideEnd {
     pub fn reserve(
         &mut self,
         own_open: &Message,
-        given: &Given,
-        made: &Sketch,
+        given: &Brought,
+        made: &SideDraft,
     ) -> Result<(), AllocError>
         requires own { IsSayable self.old.width own_open.now }
         requires told { IsSayableWhere self.old.width (told_of (hand given.now)) }
@@ -53,7 +53,7 @@ impl SideEnd {
     }
 
     // Carries a draft out, but for the UPDATE that it acts on.
-    fn carry(&mut self, alloc: Global, own_open: &Message, told: &Option<Message>, made: &Sketch)
+    fn carry(&mut self, alloc: Global, own_open: &Message, told: &Option<Message>, made: &SideDraft)
         requires own { IsSayable self.old.width own_open.now }
         requires told { IsSayableWhere self.old.width told.now }
         requires octets { all_sizes (length (written self.old.width own_open.now)) (size_where self.old.width told.now)
@@ -87,7 +87,7 @@ impl SideEnd {
 
     /// Carries out a draft of an event that brings no message, for which there is room. It takes no
     /// memory, and cannot be refused.
-    pub fn commit(&mut self, alloc: Global, own_open: &Message, made: &Sketch)
+    pub fn commit(&mut self, alloc: Global, own_open: &Message, made: &SideDraft)
         requires own { IsSayable self.old.width own_open.now }
         requires room { HasRoom own_open.now None made.now self.old }
         ensures { side self.new ≡ carried NoMessage (side self.old) (draft own_open.now NoMessage made.now) }
@@ -104,7 +104,13 @@ impl SideEnd {
 
     /// Carries out a draft of the message or fault in front, for which there is room: a message is taken
     /// away, a fault stays. It takes no memory, and cannot be refused.
-    pub fn commit_front(&mut self, alloc: Global, own_open: &Message, given: Given, made: &Sketch)
+    pub fn commit_front(
+        &mut self,
+        alloc: Global,
+        own_open: &Message,
+        given: Brought,
+        made: &SideDraft,
+    )
         requires own { IsSayable self.old.width own_open.now }
         requires told { IsSayableWhere self.old.width (told_of (hand given)) }
         requires waits { is_waiting (side self.old).held ≡ true }
@@ -121,7 +127,7 @@ impl SideEnd {
             made.link.epoch(),
         );
         self.drop_front();
-        let told = telling(given);
+        let told = fault_notice(given);
         self.carry(alloc, own_open, &told, made);
     }
 
@@ -145,12 +151,12 @@ impl SideEnd {
 }
 
 // The message that tells of what is at hand.
-fn telling(given: Given) -> Option<Message>
+fn fault_notice(given: Brought) -> Option<Message>
     ensures { result ≡ told_of (hand given) }
 {
     match given {
-        Given::Nothing | Given::Update(_) => None,
-        Given::Fault(notice) => Some(Message::NoticeMsg(notice)),
+        Brought::Nothing | Brought::Update(_) => None,
+        Brought::Fault(notice) => Some(Message::NoticeMsg(notice)),
     }
 }
 
@@ -175,7 +181,7 @@ pub(super) fn keep_front(acted: &mut History, framer: &Framer, epoch: u32)
 
 // The UPDATE at hand, which stands in front, joins those acted on where it is one of them, by the octets of
 // its frame. It takes no memory.
-fn count_front(acted: &mut History, framer: &Framer, acts: bool, given: &Given, epoch: u32)
+fn count_front(acted: &mut History, framer: &Framer, acts: bool, given: &Brought, epoch: u32)
     requires waits { is_waiting framer.now.octets ≡ true }
     requires front { (w : widths.Width) × IsInFront w framer.now.octets (hand given.now) }
     requires room { MESSAGE_LIMIT ≤ acted.old.room }
@@ -187,7 +193,7 @@ fn count_front(acted: &mut History, framer: &Framer, acts: bool, given: &Given, 
         return;
     }
     match given {
-        Given::Nothing | Given::Fault(_) => {}
-        Given::Update(_) => keep_front(acted, framer, epoch),
+        Brought::Nothing | Brought::Fault(_) => {}
+        Brought::Update(_) => keep_front(acted, framer, epoch),
     }
 }

@@ -3,47 +3,47 @@
 ghost use Rattle.std.specs.Prelude.{◌≡◌, is_some};
 ghost use Rattle.session_fsm.specs.Table.{IsGoodEvent};
 ghost use Rattle.session_fsm.specs.Timers.{runs_out};
-ghost use Rattle.router_model.specs.Sides.{met, reset, second, signed, comes, draft_of, NoMessage};
+ghost use Rattle.router_model.specs.Sides.{draft_event, draft_reset, draft_second, draft_sign, react, draft_of, NoMessage};
 ghost use Rattle.router_side.specs.Drafts.{draft, hand};
 ghost use Rattle.router_side.specs.SideOf.{side};
 
 use super::SideEnd;
-use crate::at_hand::Given;
-use crate::draft::Sketch;
+use crate::brought::Brought;
+use crate::draft::SideDraft;
 use bgp_codec::Message;
 use link_epoch::Sign;
 use session_fsm::FsmEvent;
 
 impl SideEnd {
     /// What an event that brings nothing will make of it: a start, a stop.
-    pub fn meet(&self, own_open: &Message, event: FsmEvent) -> Sketch
+    pub fn draft_event(&self, own_open: &Message, event: FsmEvent) -> SideDraft
         requires { IsGoodEvent event }
-        ensures { draft own_open.now NoMessage result ≡ met own_open.now (side self.now) event }
+        ensures { draft own_open.now NoMessage result ≡ draft_event own_open.now (side self.now) event }
     {
-        let mut made = Sketch::new(self.session, self.link);
-        made.comes(own_open, &Given::Nothing, event);
+        let mut made = SideDraft::new(self.session, self.link);
+        made.react(own_open, &Brought::Nothing, event);
         made
     }
 
     /// What a stop and a start will make of it.
-    pub fn reset(&self, own_open: &Message) -> Sketch
-        ensures { draft own_open.now NoMessage result ≡ reset own_open.now (side self.now) }
+    pub fn draft_reset(&self, own_open: &Message) -> SideDraft
+        ensures { draft own_open.now NoMessage result ≡ draft_reset own_open.now (side self.now) }
     {
-        let mut made = Sketch::new(self.session, self.link);
-        made.comes(own_open, &Given::Nothing, FsmEvent::ManualStop);
-        made.comes(own_open, &Given::Nothing, FsmEvent::ManualStart);
+        let mut made = SideDraft::new(self.session, self.link);
+        made.react(own_open, &Brought::Nothing, FsmEvent::ManualStop);
+        made.react(own_open, &Brought::Nothing, FsmEvent::ManualStart);
         made
     }
 
     /// What a second will make of it.
-    pub fn second(&self, own_open: &Message) -> Sketch
-        ensures { draft own_open.now NoMessage result ≡ second own_open.now (side self.now) }
+    pub fn draft_second(&self, own_open: &Message) -> SideDraft
+        ensures { draft own_open.now NoMessage result ≡ draft_second own_open.now (side self.now) }
     {
         let mut session = self.session;
         let event = session.tick();
-        let mut made = Sketch::new(session, self.link);
+        let mut made = SideDraft::new(session, self.link);
         if let Some(event) = event {
-            made.comes(own_open, &Given::Nothing, event);
+            made.react(own_open, &Brought::Nothing, event);
         }
         made
     }
@@ -58,24 +58,24 @@ impl SideEnd {
     }
 
     /// What a sign of the peer will make of it.
-    pub fn sign(&self, own_open: &Message, sign: Sign) -> Sketch
-        ensures { draft own_open.now NoMessage result ≡ signed own_open.now (side self.now) sign }
+    pub fn draft_sign(&self, own_open: &Message, sign: Sign) -> SideDraft
+        ensures { draft own_open.now NoMessage result ≡ draft_sign own_open.now (side self.now) sign }
     {
         let mut link = self.link;
         let heard = link.hear(sign);
-        let mut made = Sketch::new(self.session, link);
-        made.answers(own_open, heard);
+        let mut made = SideDraft::new(self.session, link);
+        made.react_to_sign(own_open, heard);
         made
     }
 
     /// What the message or fault in front will make of it, by the event that it brings.
-    pub fn handle(&self, own_open: &Message, given: &Given, event: FsmEvent) -> Sketch
+    pub fn draft_message(&self, own_open: &Message, given: &Brought, event: FsmEvent) -> SideDraft
         requires { IsGoodEvent event }
         ensures { draft own_open.now (hand given.now) result
-            ≡ comes own_open.now (hand given.now) (draft_of (side self.now).session (side self.now).link) event }
+            ≡ react own_open.now (hand given.now) (draft_of (side self.now).session (side self.now).link) event }
     {
-        let mut made = Sketch::new(self.session, self.link);
-        made.comes(own_open, given, event);
+        let mut made = SideDraft::new(self.session, self.link);
+        made.react(own_open, given, event);
         made
     }
 }

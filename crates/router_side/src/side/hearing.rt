@@ -12,7 +12,7 @@ ghost use Rattle.router_side.specs.SideOf.{side};
 
 use super::SideEnd;
 use crate::reading::{read_frame, read_front};
-use crate::route::Route;
+use crate::told_path::ToldPath;
 use bgp_codec::laws::header_is_its_front;
 use bgp_codec::{Asn, Fault, Message, Rule};
 use bgp_framing::Next;
@@ -42,7 +42,7 @@ impl SideEnd {
         read_front(alloc, &self.framer, rule)
     }
 
-    /// What [`SideEnd::front`] answers, for a caller that has not asked [`SideEnd::route_in_front`] before: a path
+    /// What [`SideEnd::front`] answers, for a caller that has not asked [`SideEnd::path_in_front`] before: a path
     /// that is told is read from its octets. It is refused only where memory was.
     pub fn front_to_show(
         &self,
@@ -67,14 +67,14 @@ impl SideEnd {
 
     /// The path that the message in front tells, where it is such an UPDATE as a router appends for a path, and
     /// one that is announced begins with the peer. It is refused only where memory was.
-    pub fn route_in_front(&self, alloc: Global, peer: Asn) -> Result<Option<Route>, AllocError>
+    pub fn path_in_front(&self, alloc: Global, peer: Asn) -> Result<Option<ToldPath>, AllocError>
         ensures { IfOk result (λ found. IfSome found (IsRouteInFront (side self.now).width peer (side self.now).held)) }
     {
         header_is_its_front();
         match self.framer.next() {
             Next::Whole(_, end) => {
                 let (frame, _) = self.framer.bytes().split_at(end);
-                Route::read(alloc, self.width, peer, frame)
+                ToldPath::read(alloc, self.width, peer, frame)
             }
             Next::More | Next::Bad(_) => Ok(None),
         }

@@ -7,14 +7,14 @@ ghost use Rattle.router_side.specs.Sayings.{IsSayable};
 ghost use Rattle.router_side.specs.SideOf.{side, told_by, HasRoomToTell, HasRoomToMark, KeepsRoom};
 
 use super::SideEnd;
-use crate::route::Route;
+use crate::told_path::ToldPath;
 use outbox::Control;
 use std::alloc::AllocError;
 
 impl SideEnd {
     /// Makes room for a path to be told. It is refused only where memory was, and the side stays as it was, with the
     /// room that it had, or more.
-    pub fn reserve_route(&mut self, route: &Route) -> Result<(), AllocError>
+    pub fn reserve_path(&mut self, route: &ToldPath) -> Result<(), AllocError>
         ensures side { side self.new ≡ side self.old }
         ensures room { OnOk result (HasRoomToTell (UpdateMsg route.now) self.new) }
         ensures kept { OnErr result (KeepsRoom self.old self.new) }
@@ -29,7 +29,7 @@ impl SideEnd {
     /// KeepaliveTimer again (RFC 4271 section 8.2.2). Its octets are put without a message in between. It takes no
     /// memory.
     #[tactic(auto, using(crate::proofs::Said::told_is))]
-    pub fn tell_route(&mut self, route: &Route)
+    pub fn tell_path(&mut self, route: &ToldPath)
         requires up { is_up (side self.old) ≡ true }
         requires sayable { IsSayable self.old.width (UpdateMsg route.now) }
         requires room { HasRoomToTell (UpdateMsg route.now) self.old }
@@ -37,7 +37,7 @@ impl SideEnd {
     {
         let epoch = self.link.epoch();
         self.sent
-            .keep_route(self.width, epoch, route, &mut self.outbox);
+            .keep_path(self.width, epoch, route, &mut self.outbox);
         self.session.update_sent();
     }
 

@@ -38,7 +38,7 @@ fn puts_nothing_first(router: &Router<'_>) -> bool {
 
 fn is_quiet_first(router: &Router<'_>) -> bool {
     match router.peer_at(0) {
-        Some(peer) => router.is_quiet_at(0, peer),
+        Some(peer) => router.link_is_idle_at(0, peer),
         None => false,
     }
 }

@@ -10,7 +10,7 @@ use bgp_codec::laws::written_has_a_header;
 use bgp_values::Width;
 use link_epoch::Sign;
 use router_core::What;
-use router_side::{Given, SideEnd, Told};
+use router_side::{Brought, PastUpdate, SideEnd};
 use session_fsm::{FsmEvent, SessionConfig, State};
 use std::alloc::{AllocError, Global};
 use std::process::Abort;
@@ -33,8 +33,8 @@ fn meets(
     requires own { (w : widths.Width) → IsSayable w own_open.now }
     requires good { IsGoodEvent event }
 {
-    let made = side.meet(own_open, event);
-    side.reserve(own_open, &Given::Nothing, &made)?;
+    let made = side.draft_event(own_open, event);
+    side.reserve(own_open, &Brought::Nothing, &made)?;
     side.commit(alloc, own_open, &made);
     Ok(())
 }
@@ -48,8 +48,8 @@ fn is_given(
 ) -> Result<(), AllocError>
     requires { (w : widths.Width) → IsSayable w own_open.now }
 {
-    let made = side.sign(own_open, sign);
-    side.reserve(own_open, &Given::Nothing, &made)?;
+    let made = side.draft_sign(own_open, sign);
+    side.reserve(own_open, &Brought::Nothing, &made)?;
     side.commit(alloc, own_open, &made);
     Ok(())
 }
@@ -85,7 +85,7 @@ fn has_octets(side: &SideEnd, count: usize) -> bool {
 }
 
 // Whether no UPDATE was told.
-fn tells_nothing(told: Result<Vec<Told>, AllocError>) -> bool {
+fn tells_nothing(told: Result<Vec<PastUpdate>, AllocError>) -> bool {
     match told {
         Ok(told) => told.is_empty(),
         Err(_) => false,

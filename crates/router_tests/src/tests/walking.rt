@@ -10,7 +10,7 @@ use super::steps::{ALIVE, OPEN_OF_ONE, UPDATE_OF_ONE};
 use super::*;
 use prefix_lanes::Prefix;
 use router_core::{Call, Command, What};
-use router_side::Told;
+use router_side::PastUpdate;
 use std::alloc::AllocError;
 
 // The generator of the walk of router 2, whose peer 1 is the origin of 10.1.0.0/16 (Knuth's multiplier); and
@@ -182,7 +182,7 @@ fn established_in(two: &mut Router<'_>, number: u32) -> Option<u32> {
 }
 
 // Whether the last UPDATE of an incarnation that was acted on announces.
-fn last_announces(told: &[Told], epoch: u32) -> bool {
+fn last_announces(told: &[PastUpdate], epoch: u32) -> bool {
     let mut last = false;
     for told in told {
         if told.epoch == epoch {

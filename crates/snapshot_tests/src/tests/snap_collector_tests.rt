@@ -2,7 +2,7 @@
 
 use super::offers::Offered::{Loss, Part};
 use super::offers::{LOSS_OF_2, Offered, offer};
-use ranked_policy::{Asn, Items};
+use ranked_policy::{Asn, NetItems};
 use snap_collector::{Member, Outcome, Why, decides, has_offered, laws, verdict};
 use snap_marker::Offer;
 use std::alloc::{AllocError, Global};
@@ -19,7 +19,7 @@ fn push_member(
     peer: Asn,
 ) -> Result<(), AllocError> {
     let peers = Vec::from_slice(alloc, &[peer])?;
-    let peers = Items::from_vec(peers);
+    let peers = NetItems::from_vec(peers);
     members
         .push(Member { router, peers })
         .map_err(|_| AllocError)
@@ -171,7 +171,7 @@ fn the_first_fault_is_named(rt: HostRuntime) -> Result<(), Fail> {
 
 /// Each law stands at the types of the program.
 #[test]
-fn each_law_holds(_rt: HostRuntime) {
+fn each_law_holds_at_a_type(_rt: HostRuntime) {
     laws::verdicts_are_outcomes();
     laws::nothing_is_kept();
     laws::kept_goes_on();

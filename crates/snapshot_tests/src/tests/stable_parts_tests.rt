@@ -4,12 +4,12 @@
 use super::networks::{Plan, network, prefix};
 use ranked_policy::{Asn, NetError, Network};
 use stable_paths::Instance;
-use stable_search::{Every, Limits, SearchError, stable_assignments};
+use stable_search::{Every, SearchError, SearchLimits, stable_assignments};
 use std::alloc::Global;
 use std::process::Abort;
 use std::test::*;
 
-const LIMITS: Limits = Limits {
+const LIMITS: SearchLimits = SearchLimits {
     most: 1_000,
     steps: 100_000,
 };
@@ -71,7 +71,11 @@ static BETWEEN_TWO: Plan = Plan {
 };
 
 // The call. This helper ensures nothing, so that no answer is carried along to the next.
-fn searched(alloc: Global, instance: &Instance, limits: &Limits) -> Result<Every, SearchError> {
+fn searched(
+    alloc: Global,
+    instance: &Instance,
+    limits: &SearchLimits,
+) -> Result<Every, SearchError> {
     stable_assignments(alloc, instance, limits)
 }
 

@@ -141,7 +141,7 @@ static OF_THE_RING: [Case; 1] = [(
 )];
 
 #[test]
-fn three_in_a_ring(rt: HostRuntime) -> Result<(), NetError> {
+fn no_assignment_of_a_ring_is_stable(rt: HostRuntime) -> Result<(), NetError> {
     checks(&rt, rt.alloc(), &RING, &OF_THE_RING)
 }
 
@@ -156,7 +156,7 @@ static OF_THE_SQUARE: [Case; 3] = [
 ];
 
 #[test]
-fn shortest_paths(rt: HostRuntime) -> Result<(), NetError> {
+fn without_rules_the_shorter_path_is_better(rt: HostRuntime) -> Result<(), NetError> {
     checks(&rt, rt.alloc(), &SQUARE, &OF_THE_SQUARE)
 }
 
@@ -185,7 +185,7 @@ fn what_was_set_last_is_read(rt: HostRuntime) {
 
 // Calls each law once.
 #[test]
-fn each_law_holds(_rt: HostRuntime) {
+fn each_law_holds_at_a_type(_rt: HostRuntime) {
     best_by_rank_is_best();
     disagree_chooses();
     each_network_has_its_model::<u8>();

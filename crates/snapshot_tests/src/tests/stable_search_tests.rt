@@ -5,12 +5,12 @@ use super::networks::{DISAGREE, PAIR, Plan, RING, SQUARE, network, prefix};
 use ranked_policy::{Asn, NetError, Network, Path};
 use stable_paths::{Assignment, Check, Instance, check};
 use stable_search::laws::stable_is_fitting;
-use stable_search::{Every, Limits, Part, SearchError, stable_assignments};
+use stable_search::{Component, Every, SearchError, SearchLimits, stable_assignments};
 use std::alloc::Global;
 use std::process::Abort;
 use std::test::*;
 
-pub(super) const LIMITS: Limits = Limits {
+pub(super) const LIMITS: SearchLimits = SearchLimits {
     most: 1_000,
     steps: 100_000,
 };
@@ -193,7 +193,7 @@ fn is_path(assignment: &Assignment, router: Asn, path: &Path) -> bool {
     assignment.path(router) == path.as_slice()
 }
 
-fn has_paths(part: &Part, choice: &[Path], assignment: &Assignment) -> bool {
+fn has_paths(part: &Component, choice: &[Path], assignment: &Assignment) -> bool {
     for (router, path) in part.routers.as_slice().iter().zip(choice) {
         if !is_path(assignment, *router, path) {
             return false;
@@ -202,7 +202,7 @@ fn has_paths(part: &Part, choice: &[Path], assignment: &Assignment) -> bool {
     true
 }
 
-fn has_choice(part: &Part, assignment: &Assignment) -> bool {
+fn has_choice(part: &Component, assignment: &Assignment) -> bool {
     for choice in part.choices.as_slice() {
         if has_paths(part, choice.as_slice(), assignment) {
             return true;
@@ -227,7 +227,11 @@ fn agrees(alloc: Global, plan: &Plan, instance: &Instance, every: &Every, code: 
         || is_stable(alloc, instance, &assignment) == is_listed(every, &assignment)
 }
 
-fn searched(alloc: Global, instance: &Instance, limits: &Limits) -> Result<Every, SearchError> {
+fn searched(
+    alloc: Global,
+    instance: &Instance,
+    limits: &SearchLimits,
+) -> Result<Every, SearchError> {
     stable_assignments(alloc, instance, limits)
 }
 
@@ -277,7 +281,7 @@ fn finds(rt: &impl Abort, alloc: Global, plan: &Plan, stable: u64) -> Result<(),
 }
 
 // Whether the first choice of a part gives the router these numbers.
-fn gives(part: &Part, router: Asn, numbers: &[Asn]) -> bool {
+fn gives(part: &Component, router: Asn, numbers: &[Asn]) -> bool {
     let Some(choice) = part.choices.as_slice().first() else {
         return false;
     };
@@ -347,7 +351,7 @@ fn answers(
     rt: &impl Abort,
     alloc: Global,
     net: &Network,
-    limits: &Limits,
+    limits: &SearchLimits,
     limit: Limit,
     at: &[Asn],
 ) {
@@ -361,7 +365,13 @@ fn answers(
     }
 }
 
-fn parts_have_few(rt: &impl Abort, alloc: Global, net: &Network, limits: &Limits, stable: u64) {
+fn parts_have_few(
+    rt: &impl Abort,
+    alloc: Global,
+    net: &Network,
+    limits: &SearchLimits,
+    stable: u64,
+) {
     let Some(prefix) = prefix() else {
         return;
     };
@@ -377,7 +387,7 @@ pub(super) fn refuses(
     rt: &impl Abort,
     alloc: Global,
     plan: &Plan,
-    limits: &Limits,
+    limits: &SearchLimits,
     limit: Limit,
     at: &[Asn],
 ) -> Result<(), NetError> {
@@ -389,39 +399,39 @@ pub(super) fn refuses(
 }
 
 #[test]
-fn the_origin_alone(rt: HostRuntime) -> Result<(), NetError> {
+fn the_origin_alone_has_one_assignment(rt: HostRuntime) -> Result<(), NetError> {
     finds(&rt, rt.alloc(), &ALONE, 1)
 }
 
 #[test]
-fn two_that_disagree(rt: HostRuntime) -> Result<(), NetError> {
+fn two_that_disagree_have_two_assignments(rt: HostRuntime) -> Result<(), NetError> {
     finds(&rt, rt.alloc(), &DISAGREE, 2)
 }
 
 #[test]
-fn a_ring_of_three(rt: HostRuntime) -> Result<(), NetError> {
+fn a_ring_of_three_has_none(rt: HostRuntime) -> Result<(), NetError> {
     finds(&rt, rt.alloc(), &RING, 0)
 }
 
 #[test]
-fn a_ring_of_four(rt: HostRuntime) -> Result<(), NetError> {
+fn a_ring_of_four_has_two(rt: HostRuntime) -> Result<(), NetError> {
     finds(&rt, rt.alloc(), &EVEN_RING, 2)
 }
 
 #[test]
-fn three_that_agree(rt: HostRuntime) -> Result<(), NetError> {
+fn three_that_agree_have_one(rt: HostRuntime) -> Result<(), NetError> {
     finds(&rt, rt.alloc(), &AGREE, 1)
 }
 
 #[test]
-fn two_pairs(rt: HostRuntime) -> Result<(), NetError> {
+fn two_pairs_have_four(rt: HostRuntime) -> Result<(), NetError> {
     finds(&rt, rt.alloc(), &TWO_PAIRS, 4)
 }
 
 // Each part has two choices, and all together four.
 #[test]
-fn choices_of_parts(rt: HostRuntime) -> Result<(), NetError> {
-    let limits = Limits { most: 2, ..LIMITS };
+fn each_pair_has_two_choices(rt: HostRuntime) -> Result<(), NetError> {
+    let limits = SearchLimits { most: 2, ..LIMITS };
     match network(rt.alloc(), &TWO_PAIRS) {
         Ok(net) => parts_have_few(&rt, rt.alloc(), &net, &limits, 4),
         Err(error) => return Err(error),
@@ -440,7 +450,7 @@ fn paths_that_no_peer_has(rt: HostRuntime) -> Result<(), NetError> {
 }
 
 #[test]
-fn without_rules(rt: HostRuntime) -> Result<(), NetError> {
+fn networks_without_rules_have_one(rt: HostRuntime) -> Result<(), NetError> {
     has_one(&rt, rt.alloc(), &PAIR, &[&[1], &[2, 1]])?;
     has_one(
         &rt,
@@ -458,7 +468,7 @@ fn without_rules(rt: HostRuntime) -> Result<(), NetError> {
 
 // A path has at most 16 routers.
 #[test]
-fn a_long_line_without_rules(rt: HostRuntime) -> Result<(), NetError> {
+fn a_long_line_has_one(rt: HostRuntime) -> Result<(), NetError> {
     has_one(
         &rt,
         rt.alloc(),
@@ -488,7 +498,7 @@ fn a_long_line_without_rules(rt: HostRuntime) -> Result<(), NetError> {
 
 // 2 prefers the longer way through 3; 4 has no rule and follows 2.
 #[test]
-fn behind_a_rule(rt: HostRuntime) -> Result<(), NetError> {
+fn a_router_without_a_rule_follows(rt: HostRuntime) -> Result<(), NetError> {
     has_one(
         &rt,
         rt.alloc(),
@@ -499,31 +509,31 @@ fn behind_a_rule(rt: HostRuntime) -> Result<(), NetError> {
 
 // 4 has no rule and is linked with the origin, so it has one path whatever 2 and 3 have.
 #[test]
-fn beside_two_that_disagree(rt: HostRuntime) -> Result<(), NetError> {
+fn beside_two_that_disagree_there_is_one_path(rt: HostRuntime) -> Result<(), NetError> {
     finds(&rt, rt.alloc(), &BESIDE_DISAGREE, 2)
 }
 
 #[test]
-fn more_choices_than_asked_for(rt: HostRuntime) -> Result<(), NetError> {
-    let limits = Limits { most: 1, ..LIMITS };
+fn more_choices_than_asked_for_are_refused(rt: HostRuntime) -> Result<(), NetError> {
+    let limits = SearchLimits { most: 1, ..LIMITS };
     refuses(&rt, rt.alloc(), &DISAGREE, &limits, Limit::Choices, &[2, 3])
 }
 
 #[test]
-fn no_step(rt: HostRuntime) -> Result<(), NetError> {
-    let limits = Limits { steps: 0, ..LIMITS };
+fn a_search_without_steps_is_refused(rt: HostRuntime) -> Result<(), NetError> {
+    let limits = SearchLimits { steps: 0, ..LIMITS };
     refuses(&rt, rt.alloc(), &DISAGREE, &limits, Limit::Steps, &[1])
 }
 
 // The origin's part takes one step, the next part more.
 #[test]
-fn too_few_steps(rt: HostRuntime) -> Result<(), NetError> {
-    let limits = Limits { steps: 1, ..LIMITS };
+fn too_few_steps_are_refused(rt: HostRuntime) -> Result<(), NetError> {
+    let limits = SearchLimits { steps: 1, ..LIMITS };
     refuses(&rt, rt.alloc(), &DISAGREE, &limits, Limit::Steps, &[2, 3])
 }
 
 // Calls the law once.
 #[test]
-fn the_law_is_called(_rt: HostRuntime) {
+fn the_law_holds_at_a_type(_rt: HostRuntime) {
     stable_is_fitting();
 }

@@ -2,7 +2,7 @@
 
 use super::*;
 use bgp_values::Width;
-use ranked_policy::{Origin, Router};
+use ranked_policy::{NetRouter, Origin};
 use std::process::Abort;
 use std::test::Fail;
 
@@ -72,7 +72,7 @@ static ROUTERS: [(Asn, u32, Answer); 9] = [
 ];
 
 // Whether the numbers rise, from 1 on, up to the last.
-fn rise_to(routers: &[Router], greatest: Asn) -> bool {
+fn rise_to(routers: &[NetRouter], greatest: Asn) -> bool {
     let mut last = 0;
     for router in routers {
         if router.asn <= last {

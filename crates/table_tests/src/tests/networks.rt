@@ -1,7 +1,7 @@
 //! What a network says of itself.
 
 use super::*;
-use ranked_policy::{Items, Link};
+use ranked_policy::{Link, NetItems};
 use std::process::Abort;
 use std::test::Fail;
 
@@ -123,7 +123,7 @@ fn links_in(rt: &impl Abort, net: &Network) {
 }
 
 #[test]
-fn links_of_a_router(rt: HostRuntime) -> Result<(), Fail> {
+fn the_links_of_a_router_are_listed(rt: HostRuntime) -> Result<(), Fail> {
     let net = finished(disagree(rt.alloc())?)?;
     links_in(&rt, &net);
     Ok(())
@@ -182,13 +182,13 @@ fn questions_of_links_and_origins_are_answered(rt: HostRuntime) -> Result<(), Fa
 }
 
 fn is_empty_list(alloc: Global) -> bool {
-    let list: Items<Asn> = Items::new(alloc);
+    let list: NetItems<Asn> = NetItems::new(alloc);
     list.is_empty()
 }
 
 // Whether a list has these numbers, and gives them back.
 fn keeps_two(list: Vec<Asn>) -> bool {
-    let list = Items::from_vec(list);
+    let list = NetItems::from_vec(list);
     list.len() == 2 && list.into_vec().as_slice() == [1, 2].as_slice()
 }
 

@@ -217,7 +217,7 @@ fn each_kind_of_policy(rt: HostRuntime) -> Result<(), Fail> {
 }
 
 #[test]
-fn each_law_holds() {
+fn each_law_holds_at_a_type() {
     policies_are_tests();
     the_best_is_the_first();
     the_longest_rule_is_one();

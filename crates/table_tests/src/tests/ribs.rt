@@ -506,7 +506,7 @@ fn is_originated_at(rib: &Rib, prefix: &Prefix) -> Option<bool> {
 }
 
 fn is_awaited(rib: &Rib) -> bool {
-    rib.is_awaited()
+    rib.has_waiting_peer()
 }
 
 fn is_pending(rib: &mut Rib) -> bool {
@@ -666,7 +666,7 @@ static THE_LAST_OF_THREE: [Row; 9] = [
 ];
 
 #[test]
-fn the_last_of_three(rt: HostRuntime) -> Result<(), Fail> {
+fn the_last_of_three_mentions_stays(rt: HostRuntime) -> Result<(), Fail> {
     tries(&rt, rt.alloc(), 4, &THE_LAST_OF_THREE)
 }
 
@@ -697,7 +697,7 @@ static ANNOUNCED_AND_WITHDRAWN: [Row; 4] = [
 ];
 
 #[test]
-fn announced_and_withdrawn(rt: HostRuntime) -> Result<(), Fail> {
+fn within_an_update_the_announcement_wins(rt: HostRuntime) -> Result<(), Fail> {
     tries(&rt, rt.alloc(), 4, &ANNOUNCED_AND_WITHDRAWN)
 }
 
@@ -739,7 +739,7 @@ static A_PREFIX_OF_NOBODY: [Row; 5] = [
 ];
 
 #[test]
-fn a_prefix_of_nobody(rt: HostRuntime) -> Result<(), Fail> {
+fn a_prefix_of_nobody_changes_nothing(rt: HostRuntime) -> Result<(), Fail> {
     tries(&rt, rt.alloc(), 4, &A_PREFIX_OF_NOBODY)
 }
 
@@ -763,7 +763,7 @@ static FORGETS_ONE_OF_TWO: [Row; 15] = [
 ];
 
 #[test]
-fn forgets_one_of_two(rt: HostRuntime) -> Result<(), Fail> {
+fn one_of_two_peers_is_forgotten(rt: HostRuntime) -> Result<(), Fail> {
     tries(&rt, rt.alloc(), 4, &FORGETS_ONE_OF_TWO)
 }
 
@@ -781,7 +781,7 @@ static THE_BEST_OF_TWO_PEERS: [Row; 9] = [
 ];
 
 #[test]
-fn the_best_of_two_peers(rt: HostRuntime) -> Result<(), Fail> {
+fn the_best_is_over_established_peers(rt: HostRuntime) -> Result<(), Fail> {
     tries(&rt, rt.alloc(), 4, &THE_BEST_OF_TWO_PEERS)
 }
 
@@ -825,7 +825,7 @@ static DECIDED_IN_ORDER: [Row; 16] = [
 ];
 
 #[test]
-fn decided_in_order(rt: HostRuntime) -> Result<(), Fail> {
+fn prefixes_are_decided_in_order(rt: HostRuntime) -> Result<(), Fail> {
     tries(&rt, rt.alloc(), 4, &DECIDED_IN_ORDER)
 }
 
@@ -862,7 +862,7 @@ static WAITING_IN_ORDER: [Row; 14] = [
 ];
 
 #[test]
-fn waiting_in_order(rt: HostRuntime) -> Result<(), Fail> {
+fn prefixes_wait_in_order(rt: HostRuntime) -> Result<(), Fail> {
     tries(&rt, rt.alloc(), 4, &WAITING_IN_ORDER)
 }
 
@@ -882,13 +882,13 @@ static WAITING_FOR_A_WITHDRAWAL: [Row; 11] = [
 ];
 
 #[test]
-fn waiting_for_a_withdrawal(rt: HostRuntime) -> Result<(), Fail> {
+fn a_peer_waits_for_a_withdrawal(rt: HostRuntime) -> Result<(), Fail> {
     tries(&rt, rt.alloc(), 4, &WAITING_FOR_A_WITHDRAWAL)
 }
 
 // Calls each law once.
 #[test]
-fn each_law_holds(_rt: HostRuntime) {
+fn each_law_holds_at_a_type(_rt: HostRuntime) {
     the_last_word_stays();
     the_last_word_goes_on();
     the_last_word_is_one();

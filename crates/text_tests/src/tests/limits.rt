@@ -62,7 +62,7 @@ static COUNTS: [(u32, &[u8], Option<Code>); 5] = [
 ];
 
 #[test]
-fn limits_on_counts(rt: HostRuntime) -> Result<(), Fail> {
+fn counts_above_a_limit_are_refused(rt: HostRuntime) -> Result<(), Fail> {
     for &(count, line, code) in &COUNTS {
         assert!(rt;
             has_code_behind_routers(rt.alloc(), count, line, code)?,
@@ -82,7 +82,7 @@ fn push_links(alloc: Global, text: &mut Vec<u8>, last: u32) -> Result<(), AllocE
 }
 
 #[test]
-fn limits_on_links(rt: HostRuntime) -> Result<(), Fail> {
+fn links_above_the_limit_are_refused(rt: HostRuntime) -> Result<(), Fail> {
     let mut links = line_of_routers(rt.alloc(), 20)?;
     push_links(rt.alloc(), &mut links, 17)?;
     limits_on_links_in(&rt, rt.alloc(), links.as_slice())
@@ -103,7 +103,7 @@ fn push_origins(alloc: Global, text: &mut Vec<u8>, count: u32) -> Result<(), All
 }
 
 #[test]
-fn limits_on_origins(rt: HostRuntime) -> Result<(), Fail> {
+fn origins_above_the_limit_are_refused(rt: HostRuntime) -> Result<(), Fail> {
     let mut origins = line_of_routers(rt.alloc(), 1)?;
     push_origins(rt.alloc(), &mut origins, 256)?;
     limits_on_origins_in(&rt, rt.alloc(), origins.as_slice())
@@ -155,7 +155,7 @@ fn has_code_of_repeat(alloc: Global, wanted: Option<Code>) -> Result<bool, Alloc
 
 // A repeat stands before that there are too many, with zeros in front as well.
 #[test]
-fn limits_on_paths(rt: HostRuntime) -> Result<(), Fail> {
+fn paths_above_the_limit_are_refused(rt: HostRuntime) -> Result<(), Fail> {
     let alloc = rt.alloc();
     assert!(rt; has_code_of_rule(alloc, 32, None)?);
     assert!(rt; has_code_of_rule(alloc, 33, Some(Code::OutOfLimit))?);
@@ -172,7 +172,7 @@ fn push_rules(alloc: Global, text: &mut Vec<u8>, count: u32) -> Result<(), Alloc
 }
 
 #[test]
-fn limits_on_rules(rt: HostRuntime) -> Result<(), Fail> {
+fn rules_above_the_limit_are_refused(rt: HostRuntime) -> Result<(), Fail> {
     let mut rules = line_of_routers(rt.alloc(), 1)?;
     push_rules(rt.alloc(), &mut rules, 64)?;
     limits_on_rules_in(&rt, rt.alloc(), rules.as_slice())

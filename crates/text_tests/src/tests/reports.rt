@@ -87,7 +87,7 @@ fn put_cuts(out: &mut Vec<u8>) -> Result<(), AllocError> {
 }
 
 #[test]
-fn cuts_and_their_counts(rt: HostRuntime) -> Result<(), Fail> {
+fn a_cut_is_written_with_its_counts(rt: HostRuntime) -> Result<(), Fail> {
     let mut out = b"front\n".to_vec(rt.alloc())?;
     put_cuts(&mut out)?;
     assert!(rt;

@@ -207,7 +207,7 @@ fn long_streams_are_decoded_to_their_end(rt: HostRuntime) -> Result<(), Fail> {
 
 // The limit of the input is judged before all else.
 #[test]
-fn an_input_above_its_limit(rt: HostRuntime) -> Result<(), Fail> {
+fn an_input_above_its_limit_is_refused(rt: HostRuntime) -> Result<(), Fail> {
     let alloc = rt.alloc();
     let mut input = vec![in alloc; b' '; 16_777_216]?;
     assert!(rt; is_decoded(alloc, input.as_slice(), b"", 0));

@@ -3,8 +3,8 @@
 ghost use Rattle.std.specs.Prelude.{◌≡◌, ◌<◌, ◌++◌, ◌∷◌, [], vec_len, vec_capacity};
 
 use super::{Worker, WorkerFault};
-use crate::around::{Desk, Gate, Lines};
 use crate::chore::Chore;
+use crate::traits::{Desk, Gate, Pipes};
 use ranked_policy::Asn;
 use router_core::Call;
 use router_model::Command;
@@ -19,7 +19,7 @@ fn write_down(chores: &mut Vec<Chore>, chore: &Chore)
     chores.extend_from_slice(&[*chore]).unwrap();
 }
 
-impl<'a, L: Lines, D: Desk, G: Gate> Worker<'a, L, D, G> {
+impl<'a, L: Pipes, D: Desk, G: Gate> Worker<'a, L, D, G> {
     ghost use Rattle.std.specs.Prelude.{◌≡◌, IfOk, IfErr, OnErr};
     ghost use Rattle.worker_loop.specs.Following.{Calls, Each, Meets, Turns, Obeys};
     ghost use Rattle.router_model.specs.Calls as calls;

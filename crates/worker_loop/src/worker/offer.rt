@@ -1,11 +1,11 @@
 //! The offers of a worker's router.
 
 use super::{Worker, WorkerFault, note};
-use crate::around::{Desk, Gate, Lines};
+use crate::traits::{Desk, Gate, Pipes};
 use std::sync::Wait;
 use world_core::Event;
 
-impl<'a, L: Lines, D: Desk, G: Gate> Worker<'a, L, D, G> {
+impl<'a, L: Pipes, D: Desk, G: Gate> Worker<'a, L, D, G> {
     ghost use Rattle.std.specs.Prelude.{◌≡◌, IfOk, IfErr};
     ghost use Rattle.worker_loop.specs.Following.{Offers};
     ghost use Rattle.worker_loop.specs.Whole.{DidSo, IsSameWorker};

@@ -1,20 +1,20 @@
 //! What a worker does between two chores, and the Turns that it passes over.
 
 use super::{Worker, WorkerFault};
-use crate::around::{Between, Desk, Gate, Lines};
 use crate::chore::Chore;
-use crate::journal::Entry;
+use crate::journal::WorkerEvent;
+use crate::traits::{Between, Desk, Gate, Pipes};
 use std::sync::Wait;
 
 // The events of a journal behind the first so many.
-fn events_behind(events: &[Entry], before: usize) -> &[Entry] {
+fn events_behind(events: &[WorkerEvent], before: usize) -> &[WorkerEvent] {
     match events.split_at_checked(before) {
         Some((_, behind)) => behind,
         None => &[],
     }
 }
 
-impl<'a, L: Lines, D: Desk, G: Gate> Worker<'a, L, D, G> {
+impl<'a, L: Pipes, D: Desk, G: Gate> Worker<'a, L, D, G> {
     ghost use Rattle.std.specs.Prelude.{IsTrue, IfOk, IfErr};
     ghost use Rattle.worker_loop.specs.Following.{Obeys};
     ghost use Rattle.worker_loop.specs.Whole.{DidSo, MayPass, IsSameWorker};
@@ -31,7 +31,7 @@ impl<'a, L: Lines, D: Desk, G: Gate> Worker<'a, L, D, G> {
         ensures { IsTrue result → MayPass L.put_to L.taken_from L.room D.made self.now }
     {
         for place in 0..self.peers.len() {
-            if !self.router.is_quiet(self.peers[place]) {
+            if !self.router.link_is_idle(self.peers[place]) {
                 return false;
             }
         }

@@ -4,14 +4,14 @@ ghost use Rattle.std.specs.Prelude.{◌≡◌, ◌≤◌, length, OnOk, IfErr};
 ghost use Rattle.worker_loop.specs.Ending.{lost};
 
 use super::{Worker, WorkerFault, note, passed_over};
-use crate::around::{Desk, Gate, Lines};
+use crate::traits::{Desk, Gate, Pipes};
 use ranked_policy::Asn;
 use router_model::laws::answers_are_steps;
 use router_model::{RouterError, Stepped};
 use std::sync::Wait;
 use world_core::Event;
 
-// Why a worker ends if its router refused an item that was taken off its line.
+// Why a worker ends if its router refused an item that was taken out of its pipe.
 fn lost(error: RouterError) -> WorkerFault
     ensures { result ≡ lost error }
 {
@@ -27,8 +27,8 @@ fn lost(error: RouterError) -> WorkerFault
     }
 }
 
-// The answer to a put for which memory is wanting: there is nothing to do if the line is full, else the worker ends.
-fn full_or_ended<L: Lines>(lines: &mut L, peer: Asn) -> Result<(), WorkerFault>
+// The answer to a put for which memory is wanting: there is nothing to do if the pipe is full, else the worker ends.
+fn full_or_ended<L: Pipes>(lines: &mut L, peer: Asn) -> Result<(), WorkerFault>
     ensures full { OnOk result (L.room lines.old peer ≤ length (L.put_to lines.old peer)) }
     ensures memory { IfErr result (λ why. why ≡ WorkerFault.Memory) }
     ensures put { L.put_to lines.new ≡ L.put_to lines.old }
@@ -42,7 +42,7 @@ fn full_or_ended<L: Lines>(lines: &mut L, peer: Asn) -> Result<(), WorkerFault>
     Err(WorkerFault::Memory)
 }
 
-impl<'a, L: Lines, D: Desk, G: Gate> Worker<'a, L, D, G> {
+impl<'a, L: Pipes, D: Desk, G: Gate> Worker<'a, L, D, G> {
     ghost use Rattle.std.specs.Prelude.{◌≡◌, IfOk, IfErr};
     ghost use Rattle.router_model.specs.Calls.{Put};
     ghost use Rattle.worker_loop.specs.Following.{Puts, Takes};

@@ -23,7 +23,7 @@ fn pipe<T: Drop>(alloc: Global, capacity: usize) -> Result<(PutEnd<T>, TakeEnd<T
 
 /// A full pipe gives an item back, an empty one has none, and what is left comes out in order.
 #[test]
-fn a_pipe_of_one_item(rt: HostRuntime) -> Result<(), Fail> {
+fn a_full_pipe_gives_the_item_back(rt: HostRuntime) -> Result<(), Fail> {
     let (mut put, mut take) = pipe(rt.alloc(), 1)?;
     assert!(rt; put.put(&rt, 7u8) == Ok(()));
     assert!(rt; put.put(&rt, 8) == Err(8));

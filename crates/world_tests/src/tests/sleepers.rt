@@ -5,7 +5,7 @@ ghost use Rattle.std.specs.List.{AllByRecursion};
 ghost use Rattle.worker_loop.specs.Script.{given_by};
 
 use super::two_routers;
-use net_workers::{Between, Chore, Entry, Limits, ScriptGate, Sleepers, run_net};
+use net_workers::{Between, Chore, Limits, ScriptGate, Sleepers, WorkerEvent, run_net};
 use prefix_lanes::Prefix;
 use ranked_policy::{Asn, Network};
 use router_model::Command;
@@ -46,7 +46,7 @@ fn did_nothing<R: Wait>(rt: &R, sleepers: &Sleepers, router: Asn) {
 
 // A worker put an item towards a peer.
 fn did_put<R: Wait>(rt: &R, sleepers: &Sleepers, router: Asn, peer: Asn, given: u32) {
-    let entry = Entry {
+    let entry = WorkerEvent {
         stamp: 1,
         event: Event::Put(router, peer),
     };
@@ -88,7 +88,7 @@ fn passes<R: Wait>(
         theirs.store(1, Ordering::SeqCst);
         did_put(rt, sleepers, router, peer, round);
     }
-    let rests = sleepers.are_resting();
+    let rests = sleepers.is_at_rest();
     sleepers.leave();
     rests
 }
@@ -121,7 +121,7 @@ fn let_all_pass<R: Threads + Wait + Sync>(rt: &R, pairs: &mut [Pair]) {
 
 // One of two has the token at any time: where both slept nothing would be to come, and none would sleep from then on.
 #[test]
-fn two_workers_that_feed_each_other(rt: HostRuntime) -> Result<(), Fail> {
+fn two_workers_feed_each_other(rt: HostRuntime) -> Result<(), Fail> {
     let mut pairs = Vec::new(rt.alloc());
     for made in 0..PAIRS {
         let _ = made;
@@ -152,7 +152,7 @@ fn ends_beside(sleepers: &Sleepers, other: Asn) -> bool {
 fn is_woken<R: Wait>(rt: &R, sleepers: &Sleepers, router: Asn) -> bool {
     did_nothing(rt, sleepers, router);
     did_nothing(rt, sleepers, router);
-    !sleepers.sleeps(router) && sleepers.are_resting()
+    !sleepers.sleeps(router) && sleepers.is_at_rest()
 }
 
 fn one_ends<R: Threads + Wait + Sync>(rt: &R, sleepers: &Sleepers) -> (bool, bool) {
@@ -184,7 +184,7 @@ fn both_sleep<R: Threads + Wait + Sync>(rt: &R, sleepers: &Sleepers) -> (bool, b
 fn two_that_sleep_go_on_to_their_end(rt: HostRuntime) -> Result<(), Fail> {
     let sleepers = new_sleepers(rt.alloc())?;
     assert!(rt; both_sleep(&rt, &sleepers) != (true, true));
-    assert!(rt; !sleepers.are_resting() && !sleepers.sleeps(1) && !sleepers.sleeps(2));
+    assert!(rt; !sleepers.is_at_rest() && !sleepers.sleeps(1) && !sleepers.sleeps(2));
     Ok(())
 }
 

@@ -262,7 +262,7 @@ static LONG_DATA: Case = Case {
 };
 
 #[test]
-fn a_fault_with_long_data(rt: HostRuntime) {
+fn a_fault_with_long_data_is_answered(rt: HostRuntime) {
     assert!(rt; is_answered(rt.alloc(), &LONG_DATA));
 }
 

@@ -201,7 +201,7 @@ static LONG: [(usize, Option<usize>); 2] = [(4032, Some(4096)), (4033, None)];
 // The longest UPDATE is written, and a writable one of an octet more is refused with the vector as
 // it was. Its unknown attribute needs Extended Length.
 #[test]
-fn the_longest_update(rt: HostRuntime) -> Result<(), Fail> {
+fn the_longest_update_is_written(rt: HostRuntime) -> Result<(), Fail> {
     for &(len, wanted) in &LONG {
         let mut out = vec![in rt.alloc(); 7u8]?;
         let message = update_with(rt.alloc(), len)?;

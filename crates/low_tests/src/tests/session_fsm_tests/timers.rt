@@ -158,7 +158,7 @@ static STOPPED: [&[FsmEvent]; 3] = [
 
 /// After a stop by hand, in Established or after a close, nothing starts by itself.
 #[test]
-fn stopped_by_hand(rt: HostRuntime) {
+fn a_stopped_session_stays_idle(rt: HostRuntime) {
     for last in &STOPPED {
         let mut session = session(90, 5);
         give_all(&rt, &mut session, &UP);

@@ -1,9 +1,9 @@
 use Rattle.std.proofs.Common.{◌∷◌, [], ◌++◌, ap, ◌∙◌}
-use Rattle.net_workers.specs.declared.ends.Ends.{Ends}
+use Rattle.net_workers.specs.declared.worker_pipes.WorkerPipes.{WorkerPipes}
 use Rattle.net_workers.proofs.Dealt.{pushed}
 use Rattle.net_workers.proofs.dealing.add.Goals as goal
 
-pub returns-clause-lanes : goal.returns-clause-lanes
-returns-clause-lanes c =
-    pushed c.args.ends.now.items c.args.at c.index_mut.result.now (record { lanes = c.push.new.self }) c.args.lane c.requires.below
-    (c.in_ok-push.ensures.items ∙ ap (λ (e : Ends). e.lanes.items ++ c.args.lane ∷ []) c.index_mut.ensures.value)
+pub returns-clause-pairs : goal.returns-clause-pairs
+returns-clause-pairs c =
+    pushed c.args.ends.now.items c.args.at c.index_mut.result.now (record { pairs = c.push.new.self }) c.args.pair c.requires.below
+    (c.in_ok-push.ensures.items ∙ ap (λ (e : WorkerPipes). e.pairs.items ++ c.args.pair ∷ []) c.index_mut.ensures.value)

@@ -1,4 +1,4 @@
--- the links that are left are dealt; what the lanes had is what the ways have, or the lanes that are left
+-- the links that are left are dealt; what the pairs had is what the ways have, or the pairs that are left
 use Rattle.std.proofs.Common.{◌≡◌, ◌++◌, length, map, drop}
 use Rattle.std.specs.List.{AllByRecursion, flat_map}
 use Rattle.ranked_policy.specs.Plans.{numbers}

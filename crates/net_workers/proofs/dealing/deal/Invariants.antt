@@ -1,4 +1,4 @@
--- each worker has lanes, over which nothing passed, for the links behind those that are left
+-- each worker has pairs, over which nothing passed, for the links behind those that are left
 use Rattle.std.proofs.Common.{◌≡◌, ◌≤◌, length, drop}
 use Rattle.std.specs.List.{AllByRecursion}
 use Rattle.net_workers.specs.Lanes.{AreNew}

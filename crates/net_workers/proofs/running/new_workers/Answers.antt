@@ -17,7 +17,7 @@ loop-router-preserved g c =
     let l = c.loop-router in
     let items = c.in_ok-push.ensures.items in
     record {
-      lanes = shorter _ _ c.in-Some-Some.lines l.router-index _ c.in-Some-Some.ensures.items l.invariant.lanes;
+      pairs = shorter _ _ c.in-Some-Some.lines l.router-index _ c.in-Some-Some.ensures.items l.invariant.pairs;
       gates = shorter _ _ c.in-Some-Some.gate l.router-index _ c.in-Some-Some.ensures'.items l.invariant.gates;
       new = (subst (AllByRecursion AreNew) c.in-Some-Some.ensures.items l.invariant.new).1;
       given = (subst (AllByRecursion (λ gate. g.G.Gate.given gate ≡ [])) c.in-Some-Some.ensures'.items l.invariant.given).1;

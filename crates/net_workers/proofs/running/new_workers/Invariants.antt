@@ -1,4 +1,4 @@
--- the workers that were made, and the routers that are left, are all; and there are lanes and gates for those
+-- the workers that were made, and the routers that are left, are all; and there are pairs and gates for those
 use Rattle.std.proofs.Common.{◌≡◌, ◌+◌, ◌++◌, [], map, length, drop}
 use Rattle.std.specs.List.{AllByRecursion}
 use Rattle.ranked_policy.specs.Plans.{numbers}
@@ -9,7 +9,7 @@ use Rattle.net_workers.proofs.running.new_workers.Given as goal
 
 abbrev pub invariant-loop-router : goal.invariant-loop-router
 invariant-loop-router g l = record {
-  lanes : length l.ends.rest.items + l.router-index ≡ length l.router-items;
+  pairs : length l.ends.rest.items + l.router-index ≡ length l.router-items;
   gates : length l.gates.rest.items + l.router-index ≡ length l.router-items;
   new : AllByRecursion AreNew l.ends.rest.items;
   given : AllByRecursion (λ gate. g.G.Gate.given gate ≡ []) l.gates.rest.items;

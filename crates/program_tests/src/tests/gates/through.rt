@@ -9,7 +9,7 @@ use std::alloc::{AllocError, Global};
 use std::sync::Wait;
 use std::test::Fail;
 use std::thread::Threads;
-use worker_loop::Entry;
+use worker_loop::WorkerEvent;
 use world_core::{Event, World, play, through_cut};
 
 // What a router acted on and sent with a peer.
@@ -56,7 +56,7 @@ fn lead_to(
     }
 }
 
-fn events_of(alloc: Global, gathered: &[Entry]) -> Result<Vec<Event>, AllocError> {
+fn events_of(alloc: Global, gathered: &[WorkerEvent]) -> Result<Vec<Event>, AllocError> {
     gathered.iter().map(|entry| entry.event).collect(alloc)
 }
 

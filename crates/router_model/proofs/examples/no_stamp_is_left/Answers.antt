@@ -5,9 +5,9 @@ use Rattle.bgp_codec.specs.Faults.{reading}
 use Rattle.bgp_codec.specs.Header.{begins_with_marker, header_fault}
 use Rattle.bgp_codec.specs.Opens.{open_reading}
 use Rattle.bgp_codec.specs.Spelling.{header_of, framed}
-use Rattle.router_model.specs.Sides.{comes, meets, obeys, answers}
+use Rattle.router_model.specs.Sides.{react, react_once, apply, react_to_sign}
 use Rattle.router_model.proofs.examples.no_stamp_is_left.Goals as goal
 
 pub returns : goal.returns
-unfolding comes meets obeys answers header_of framed header_fault begins_with_marker reading open_reading lanes.marker
+unfolding react react_once apply react_to_sign header_of framed header_fault begins_with_marker reading open_reading lanes.marker
 returns c = refl

@@ -16,7 +16,7 @@ use Rattle.bgp_codec.specs.Opens.{open_reading}
 use Rattle.bgp_codec.specs.Reading.{all_in}
 use Rattle.bgp_codec.specs.UpdateReading.{update_reading, attrs_in}
 use Rattle.bgp_codec.specs.Spelling.{header_of, framed}
-use Rattle.router_model.specs.Sides.{comes, meets, obeys, answers}
+use Rattle.router_model.specs.Sides.{react, react_once, apply, react_to_sign}
 use Rattle.router_model.proofs.examples.tells_below_the_limit.Goals as goal
 
 counted : (n : ℕ) → octets_waiting (octets_of {M = Message} 1 (replicate n 0)) ≡ n
@@ -24,7 +24,7 @@ counted zero = refl
 counted (suc n) = ap (λ k. k + 1) (counted n) ∙ omega arith
 
 told_at : (n : ℕ) (b : Bool) → nat_lt n 65536 ≡ b → answer setting 1 (waiting_behind n) Advertise ≡ cond b (Steps (alone (Advertises 2))) (Refuses (error.Blocked 2))
-unfolding comes meets obeys answers header_of framed header_fault begins_with_marker reading open_reading all_in update_reading attrs_in lanes.marker
+unfolding react react_once apply react_to_sign header_of framed header_fault begins_with_marker reading open_reading all_in update_reading attrs_in lanes.marker
 told_at n true h = rw (counted n, h) refl
 told_at n false h = rw (counted n, h) refl
 

@@ -1,7 +1,7 @@
 //! Verdicts on the offers of a line of many routers, which a table finds.
 
 use super::has_verdict;
-use ranked_policy::{Asn, Items};
+use ranked_policy::{Asn, NetItems};
 use snap_collector::{Member, Outcome, Why};
 use snap_marker::{Channel, Offer, Part};
 use std::alloc::{AllocError, Global};
@@ -24,7 +24,7 @@ fn line(alloc: Global, count: u32) -> Result<Vec<Member>, AllocError> {
     let mut members = Vec::new(alloc);
     for before in 0..count {
         let router = before.wrapping_add(1);
-        let peers = Items::from_vec(neighbours(alloc, router, count)?);
+        let peers = NetItems::from_vec(neighbours(alloc, router, count)?);
         members.push(Member { router, peers })?;
     }
     Ok(members)

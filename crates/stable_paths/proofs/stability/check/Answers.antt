@@ -1,5 +1,5 @@
 use Rattle.std.proofs.Common.{◌≤◌, List, length, ◌∙◌, ap, subst, refl}
-use Rattle.ranked_policy.specs.declared.network.Router.{Router}
+use Rattle.ranked_policy.specs.declared.network.NetRouter.{NetRouter}
 use Rattle.ranked_policy.specs.Plans.{Plan}
 use Rattle.stable_paths.specs.Stable.{path_of, IsBest}
 use Rattle.stable_paths.proofs.ListLemmas.{never}
@@ -26,5 +26,5 @@ pub returns : goal.returns
 returns c = (
   c.in_ok-permit_all.ensures.ok,
   each_all (λ v. IsBest c.args.instance.now (path_of c.args.assignment.now) v (path_of c.args.assignment.now v)) c.args.instance.now.net.routers c.loop-router.router-index
-      (subst (λ (rs : List Router). length rs ≤ c.loop-router.router-index) (c.routers-router-items.ensures.value ∙ ap (λ (n : Plan). n.routers) c.network-network.ensures.value) c.loop-router-test.false) c.loop-router.invariant,
+      (subst (λ (rs : List NetRouter). length rs ≤ c.loop-router.router-index) (c.routers-router-items.ensures.value ∙ ap (λ (n : Plan). n.routers) c.network-network.ensures.value) c.loop-router-test.false) c.loop-router.invariant,
 )

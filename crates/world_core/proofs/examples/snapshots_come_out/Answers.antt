@@ -7,9 +7,9 @@ use Rattle.bgp_codec.specs.Opens.{open_reading}
 use Rattle.bgp_codec.specs.Reading.{all_in}
 use Rattle.bgp_codec.specs.UpdateReading.{update_reading, attrs_in}
 use Rattle.bgp_codec.specs.Spelling.{header_of, framed}
-use Rattle.router_model.specs.Sides.{comes, meets, obeys, answers}
+use Rattle.router_model.specs.Sides.{react, react_once, apply, react_to_sign}
 use Rattle.world_core.proofs.examples.snapshots_come_out.Goals as goal
 
 pub returns : goal.returns
-unfolding comes meets obeys answers header_of framed header_fault begins_with_marker reading open_reading all_in update_reading attrs_in lanes.marker
+unfolding react react_once apply react_to_sign header_of framed header_fault begins_with_marker reading open_reading all_in update_reading attrs_in lanes.marker
 returns c = record { rest = (refl, refl); flight = refl; close = refl; greater = (refl, refl) }

@@ -8,8 +8,8 @@ use Rattle.rib_tables.proofs.ChangeLemmas.{from_map}
 use Rattle.rib_tables.proofs.OneRowLemmas.{clear_keeps_rib, clears_view}
 use Rattle.rib_tables.proofs.rib.Rib.clear.Goals as goal
 
-pub await_all-requires-clause-words : goal.await_all-requires-clause-words
-await_all-requires-clause-words c = λ i r at.
+pub wait_after_all-requires-clause-words : goal.wait_after_all-requires-clause-words
+wait_after_all-requires-clause-words c = λ i r at.
     let s = c.self.inside in
     let x = from_map clearing s.rows.items i r (ap (λ (rs : List Row). slice_get rs i) (sym (c.as_slice-2.ensures.value ∙ c.clear_all.ensures.rows)) ∙ at) in
     ap (λ (y : Row). length y.sent) x.2 ∙ (c.self.invariant.whole.each i x.0 x.1).sent ∙ ap (λ (ps : List Peer). length ps) (sym c.as_slice.ensures.value)
@@ -17,9 +17,9 @@ await_all-requires-clause-words c = λ i r at.
 pub invariant_of-self : goal.invariant_of-self
 invariant_of-self c =
     let s = c.self.inside in
-    clear_keeps_rib s.network.now s.router s.peers.items s.keys.keys s.rows.items c.self.invariant.whole c.clear_all.new.rows.items c.clear_all.ensures.rows c.clear_all.new.dirty c.await_all.new.waits.items c.clear_all.ensures.dirty
-    (subst (λ (ps : List Peer). AreWaiting ps c.clear_all.new.rows.items c.await_all.new.waits.items) c.as_slice.ensures.value
-    (subst (λ (rs : List Row). AreWaiting c.as_slice.result.now rs c.await_all.new.waits.items) c.as_slice-2.ensures.value c.await_all.ensures))
+    clear_keeps_rib s.network.now s.router s.peers.items s.keys.keys s.rows.items c.self.invariant.whole c.clear_all.new.rows.items c.clear_all.ensures.rows c.clear_all.new.dirty c.wait_after_all.new.waits.items c.clear_all.ensures.dirty
+    (subst (λ (ps : List Peer). AreWaiting ps c.clear_all.new.rows.items c.wait_after_all.new.waits.items) c.as_slice.ensures.value
+    (subst (λ (rs : List Row). AreWaiting c.as_slice.result.now rs c.wait_after_all.new.waits.items) c.as_slice-2.ensures.value c.wait_after_all.ensures))
 
 pub returns : goal.returns
 returns c =

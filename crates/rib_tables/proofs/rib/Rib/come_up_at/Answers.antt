@@ -23,8 +23,8 @@ set_up-requires c =
     let here = peer_at_place s.network.now s.router s.peers.items s.keys.keys s.rows.items c.self.invariant.whole c.args.peer c.args.self.now c.self.view_is c.args.place c.requires.stands in
     slice_get_within s.peers.items c.args.place here.0 here.1
 
-pub untold-requires-clause-words : goal.untold-requires-clause-words
-untold-requires-clause-words c = λ i r at.
+pub unadvertised-requires-clause-words : goal.unadvertised-requires-clause-words
+unadvertised-requires-clause-words c = λ i r at.
     let s = c.self.inside in
     let here = peer_at_place s.network.now s.router s.peers.items s.keys.keys s.rows.items c.self.invariant.whole c.args.peer c.args.self.now c.self.view_is c.args.place c.requires.stands in
     let lt = slice_get_within s.peers.items c.args.place here.0 here.1 in
@@ -46,9 +46,9 @@ invariant_of-self c =
     let k = c.args.place in
     let here = peer_at_place s.network.now s.router s.peers.items s.keys.keys s.rows.items c.self.invariant.whole c.args.peer c.args.self.now c.self.view_is c.args.place c.requires.stands in
     let marks : MarksSpeaking k s.rows.items s.dirty c.mark_words.new.dirty = subst (λ (rs : List Row). MarksSpeaking k rs s.dirty c.mark_words.new.dirty) c.as_slice.ensures.value c.mark_words.ensures in
-    subst (λ (ps : List Peer). IsRib s.network.now s.router ps s.keys.keys s.rows.items c.mark_words.new.dirty (set s.waits.items k c.untold.result)) (sym (c.set_up.ensures here.0 here.1))
-    (rise_keeps_rib s.network.now s.router s.peers.items s.keys.keys s.rows.items s.dirty s.waits.items c.self.invariant k here.0 here.1 c.mark_words.new.dirty c.untold.result marks
-    (λ i r at. c.untold.ensures i r (ap (λ (rs : List Row). slice_get rs i) c.as_slice-2.ensures.value ∙ at)))
+    subst (λ (ps : List Peer). IsRib s.network.now s.router ps s.keys.keys s.rows.items c.mark_words.new.dirty (set s.waits.items k c.unadvertised.result)) (sym (c.set_up.ensures here.0 here.1))
+    (rise_keeps_rib s.network.now s.router s.peers.items s.keys.keys s.rows.items s.dirty s.waits.items c.self.invariant k here.0 here.1 c.mark_words.new.dirty c.unadvertised.result marks
+    (λ i r at. c.unadvertised.ensures i r (ap (λ (rs : List Row). slice_get rs i) c.as_slice-2.ensures.value ∙ at)))
 
 pub returns : goal.returns
 returns c =

@@ -3,12 +3,12 @@ use Rattle.std.specs.Prelude.{nat_lt, Ok, Err}
 use Rattle.std.proofs.lemmas.Bool.Decides.{nat_tests}
 use Rattle.std.proofs.lemmas.Result.{err_from_is_err_and}
 use Rattle.router_model.specs.declared.refusal.Stepped.TheVariants as stepped
-use Rattle.router_model.specs.Sides.{second}
+use Rattle.router_model.specs.Sides.{draft_second}
 use Rattle.router_model.specs.Calls.{Tick}
 use Rattle.run_model.specs.declared.stamps.TheConstants.{GREATEST_STAMP}
 use Rattle.router_core.specs.Views.{RouterView, Answers, Ends, plain_of}
 use Rattle.router_core.specs.Calling.{no_step}
-use Rattle.router_core.specs.Whole.{overflow_in, runs_out_in}
+use Rattle.router_core.specs.ToAll.{overflow_in, runs_out_in}
 use Rattle.router_core.proofs.NoStep.{ends_no_step}
 use Rattle.router_core.proofs.Snapshots.{with_peers}
 use Rattle.router_core.proofs.Carrying.{ends_did}
@@ -44,5 +44,5 @@ returns-clause-answers c =
     rw c.in_ok-stamp.ensures.next.0
     (subst (λ (x : RouterView). Answers (Ok stepped.Did) x Tick y) c.self.view_is (λ g e ranks.
     ticks g r e c.self.invariant (Ok stepped.Did) (plain_of y)
-    (ends_did (nat_lt GREATEST_STAMP (r.stamp + 1)) (overflow_in (second r.own_open) r.peers) (plain_of r) (ticked g r e c.self.invariant) (plain_of y) early (counting_fits r.own_open r.peers rests)
+    (ends_did (nat_lt GREATEST_STAMP (r.stamp + 1)) (overflow_in (draft_second r.own_open) r.peers) (plain_of r) (ticked g r e c.self.invariant) (plain_of y) early (counting_fits r.own_open r.peers rests)
     (counted_done g r qs e c.self.invariant rests c.count_down_all.ensures (r.stamp + 1)))))

@@ -4,10 +4,10 @@ use Rattle.snap_marker.specs.Recordings.{closed}
 use Rattle.bgp_codec.specs.declared.message.Message.{Message}
 use Rattle.router_model.specs.Sides.{Side, NoMessage, carried}
 use Rattle.router_model.specs.Step.{close_at}
-use Rattle.router_side.specs.declared.draft.Sketch.{Sketch}
+use Rattle.router_side.specs.declared.draft.SideDraft.{SideDraft}
 use Rattle.router_side.specs.SideOf.{side}
 use Rattle.router_core.specs.declared.peers.Peer.{Peer}
-use Rattle.router_core.specs.Whole.{draft_by, IsReady, MovesSide}
+use Rattle.router_core.specs.ToAll.{draft_by, IsReady, MovesSide}
 use Rattle.router_core.proofs.Marking.{Passed, passed_next, passed_all}
 use Rattle.router_core.proofs.Moving.{ready_here, ready_long, passed_here, passed_long, fits_here, left_all, closed_next, rest_then}
 use Rattle.router_core.proofs.router.Router.move_all.Goals as goal
@@ -37,7 +37,7 @@ move_side-requires-clause-ready c = λ d.
     let here : l.at < length x.peers = omega (arith, less, long) in
     let a = c.index-made-at.result in
     let first = ready_here x.own_open D l.at x.peers c.args.made.now d a c.requires.ready less in
-    let second = subst (λ (m : Sketch). IsReady x.own_open D (get_or x.peers l.at d) m) (sym c.index-made-at.is) first in
+    let second = subst (λ (m : SideDraft). IsReady x.own_open D (get_or x.peers l.at d) m) (sym c.index-made-at.is) first in
     let third = subst (λ (p : Peer). IsReady x.own_open D p a) (sym (passed_here f l.at x.peers l.self.peers d l.invariant.peers)) second in
     subst (λ (o : Message). IsReady o (draft_by w o) (get_or l.self.peers l.at d) a) (sym l.invariant.rest.own_open) third
 

@@ -2,7 +2,7 @@ use Rattle.std.proofs.Common.{◌≡◌}
 use Rattle.snap_marker.specs.Parts.{snapshots_of}
 use Rattle.snap_marker.specs.Recordings.{closed}
 use Rattle.router_model.specs.Sides.{NoMessage, carried}
-use Rattle.router_core.specs.Whole.{draft_by, IsRest}
+use Rattle.router_core.specs.ToAll.{draft_by, IsRest}
 use Rattle.router_core.proofs.Marking.{Passed}
 use Rattle.router_core.proofs.Moving.{left_below}
 use Rattle.router_core.proofs.router.Router.move_all.Given as goal

@@ -8,7 +8,7 @@ use Rattle.router_side.specs.SideOf.{side}
 use Rattle.router_core.specs.declared.peers.Peer.{Peer}
 use Rattle.router_core.specs.Views.{RouterView, IsAt}
 use Rattle.router_core.specs.Following.{standing}
-use Rattle.router_core.specs.Whole.{draft_by, IsReady, MovesSide}
+use Rattle.router_core.specs.ToAll.{draft_by, IsReady, MovesSide}
 use Rattle.router_core.proofs.Beginnings.{linked_to}
 use Rattle.router_core.proofs.PeerLemmas.{is_listed}
 use Rattle.router_core.proofs.Following.{leaves}

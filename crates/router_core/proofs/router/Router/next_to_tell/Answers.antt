@@ -40,7 +40,7 @@ returns-then-octets_waiting-lt-OUTBOX_LIMIT c =
     subst (λ (x : RouterView). IsNext x (next.Peer c.loop-at.at c.in-Some.found.0 q)) c.self.view_is
     (is_next r c.self.invariant c.loop-at.at p lt c.index-peer.ensures q c.in-Some.ensures.least free c.loop-at.blocked c.loop-at.invariant c.in-Some.found.0 (rw (sym c.self.invariant.tabled.net) c.in-Some.ensures.named))
 
-pub returns-then-not-is_awaited : goal.returns-then-not-is_awaited
-returns-then-not-is_awaited c =
+pub returns-then-not-has_waiting_peer : goal.returns-then-not-has_waiting_peer
+returns-then-not-has_waiting_peer c =
     let r : RouterView = record { net = c.self.inside.network.now; number = c.self.inside.number; own_open = c.self.inside.own_open; peers = c.self.inside.peers.items; tables = c.self.inside.tables; marks = c.self.inside.marks; stamp = c.self.inside.stamp } in
-    subst (λ (x : RouterView). IsNext x next.Nobody) c.self.view_is (nobody_waits r c.self.invariant (c.is_awaited.ensures.none c.if-not-is_awaited.true))
+    subst (λ (x : RouterView). IsNext x next.Nobody) c.self.view_is (nobody_waits r c.self.invariant (c.has_waiting_peer.ensures.none c.if-not-has_waiting_peer.true))

@@ -11,7 +11,7 @@ pub returns : goal.returns
 returns c =
     let r : RouterView = record { net = c.self.inside.network.now; number = c.self.inside.number; own_open = c.self.inside.own_open; peers = c.self.inside.peers.items; tables = c.self.inside.tables; marks = c.self.inside.marks; stamp = c.self.inside.stamp } in
     let s = c.self.invariant in
-    let laws = c.the_best_is_the_route.ensures in
+    let laws = c.the_best_is_the_best_path.ensures in
     let part =
     subst (λ (os : List Origin). IsPart os r.tables r.peers r.number 0 None c.in-Ok.part) c.origins-origins.ensures.value
     (subst (λ (ps : List Peer). IsPart c.origins-origins.result.now r.tables ps r.number 0 None c.in-Ok.part) c.as_slice-peers.ensures.value c.in-Ok.ensures) in

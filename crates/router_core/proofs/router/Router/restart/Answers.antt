@@ -6,7 +6,7 @@ use Rattle.router_model.specs.declared.refusal.RouterError.TheVariants as error
 use Rattle.router_model.specs.declared.refusal.Stepped.TheVariants as stepped
 use Rattle.session_fsm.specs.declared.event.FsmEvent.TheVariants.{ManualStop}
 use Rattle.router_model.specs.declared.command.Command.TheVariants.{Restart}
-use Rattle.router_model.specs.Sides.{met}
+use Rattle.router_model.specs.Sides.{draft_event}
 use Rattle.router_model.specs.Step.{forgetting}
 use Rattle.router_model.specs.Calls.{Stamped, Obey}
 use Rattle.run_model.specs.declared.stamps.TheConstants.{GREATEST_STAMP}
@@ -70,4 +70,4 @@ returns-clause-answers c =
     (cleared w c.clear.new.self (r.stamp + 1) c.clear.ensures
     ∙ ap (λ (k : RouterView). record { router = forgetting (plain_of k).router; stamp = r.stamp + 1 }) c.self-2.view_is
     ∙ ap (λ (k : Stamped). record { router = forgetting k.router; stamp = r.stamp + 1 })
-    (all_done g r c.prepare.new.peers.items c.move_all.new.self (λ s. met r.own_open s ManualStop) e c.self.invariant c.prepare.ensures.same c.move_all.ensures (r.stamp + 1))))))
+    (all_done g r c.prepare.new.peers.items c.move_all.new.self (λ s. draft_event r.own_open s ManualStop) e c.self.invariant c.prepare.ensures.same c.move_all.ensures (r.stamp + 1))))))

@@ -6,7 +6,7 @@ use Rattle.bgp_framing.specs.Held.{is_waiting}
 use Rattle.outbox.specs.declared.item.What.TheVariants as item
 use Rattle.router_model.specs.declared.refusal.RouterError.TheVariants as error
 use Rattle.router_model.specs.declared.refusal.Stepped.TheVariants as stepped
-use Rattle.router_model.specs.Sides.{Side, NoMessage, fed, signed}
+use Rattle.router_model.specs.Sides.{Side, NoMessage, fed, draft_sign}
 use Rattle.router_model.specs.Calls.{Take}
 use Rattle.run_model.specs.declared.stamps.TheConstants.{GREATEST_STAMP}
 use Rattle.link_epoch.specs.declared.link_end.Sign.TheVariants as sign
@@ -55,8 +55,8 @@ returns-in-Dial-clause-answers c =
     let next : c.saturating_add-stamp.result ≡ max r.stamp c.args.item.now.stamp + 1 = omega (arith, c.if-stamp-gt-GREATEST_STAMP.false, c.max.ensures, c.saturating_add-stamp.ensures) in
     let p = c.index.result.now in
     let x = sign.Dial c.in-Dial.number in
-    let a = signed r.own_open (sides_of r v) x in
-    let made = ap (λ (s : Side). signed r.own_open s x) (stands_at r v c.args.at p found.2 c.index.ensures) in
+    let a = draft_sign r.own_open (sides_of r v) x in
+    let made = ap (λ (s : Side). draft_sign r.own_open s x) (stands_at r v c.args.at p found.2 c.index.ensures) in
     let free = sym c.is_waiting.ensures ∙ c.if-is_waiting.false in
     let takes = subst (λ (w : RouterView). TakesSign c.take_sign.result w v x c.saturating_add-stamp.result c.take_sign.new.self) (sym c.self.view_is) c.take_sign.ensures.takes in
     let ends = subst (λ n. Carries c.take_sign.result r v NoMessage a a.overflows n c.take_sign.new.self) next takes in
@@ -72,8 +72,8 @@ returns-in-Shut-clause-answers c =
     let next : c.saturating_add-stamp.result ≡ max r.stamp c.args.item.now.stamp + 1 = omega (arith, c.if-stamp-gt-GREATEST_STAMP.false, c.max.ensures, c.saturating_add-stamp.ensures) in
     let p = c.index.result.now in
     let x = sign.Shut c.in-Shut.number in
-    let a = signed r.own_open (sides_of r v) x in
-    let made = ap (λ (s : Side). signed r.own_open s x) (stands_at r v c.args.at p found.2 c.index.ensures) in
+    let a = draft_sign r.own_open (sides_of r v) x in
+    let made = ap (λ (s : Side). draft_sign r.own_open s x) (stands_at r v c.args.at p found.2 c.index.ensures) in
     let free = sym c.is_waiting.ensures ∙ c.if-is_waiting.false in
     let takes = subst (λ (w : RouterView). TakesSign c.take_sign-in-Shut.result w v x c.saturating_add-stamp.result c.take_sign-in-Shut.new.self) (sym c.self.view_is) c.take_sign-in-Shut.ensures.takes in
     let ends = subst (λ n. Carries c.take_sign-in-Shut.result r v NoMessage a a.overflows n c.take_sign-in-Shut.new.self) next takes in

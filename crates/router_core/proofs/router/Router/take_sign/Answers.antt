@@ -1,5 +1,5 @@
 use Rattle.std.proofs.Common.{◌≡◌, ◌∙◌, ap, sym, subst}
-use Rattle.router_model.specs.Sides.{Side, Draft, NoMessage, signed}
+use Rattle.router_model.specs.Sides.{Side, Draft, NoMessage, draft_sign}
 use Rattle.router_side.specs.Drafts.{draft}
 use Rattle.router_side.specs.Freshness.{KeepsFresh}
 use Rattle.router_side.specs.SideOf.{side}
@@ -13,9 +13,9 @@ carry_out-requires-clause-fresh c = λ o.
     let r : RouterView = record { net = c.self.inside.network.now; number = c.self.inside.number; own_open = c.self.inside.own_open; peers = c.self.inside.peers.items; tables = c.self.inside.tables; marks = c.self.inside.marks; stamp = c.self.inside.stamp } in
     let found = subst (λ (x : RouterView). IsFound x.peers c.args.peer c.args.at) (sym c.self.view_is) c.requires in
     let p = c.index.result.now in
-    subst (λ (x : RouterView). KeepsFresh (sides_of x c.args.peer) NoMessage (draft x.own_open NoMessage c.sign-made.result)) c.self.view_is
-    (keeps_here r c.args.peer c.args.at p found.2 c.index.ensures c.self.invariant (draft r.own_open NoMessage c.sign-made.result) (signed r.own_open (side p.end) c.args.sign) c.sign-made.ensures
-    (λ f. c.what_comes_keeps_fresh.ensures.signs r.own_open (side p.end) c.args.sign f (ap (λ (a : Draft). a.overflows) (sym c.sign-made.ensures) ∙ o)))
+    subst (λ (x : RouterView). KeepsFresh (sides_of x c.args.peer) NoMessage (draft x.own_open NoMessage c.draft_sign-made.result)) c.self.view_is
+    (keeps_here r c.args.peer c.args.at p found.2 c.index.ensures c.self.invariant (draft r.own_open NoMessage c.draft_sign-made.result) (draft_sign r.own_open (side p.end) c.args.sign) c.draft_sign-made.ensures
+    (λ f. c.what_comes_keeps_fresh.ensures.signs r.own_open (side p.end) c.args.sign f (ap (λ (a : Draft). a.overflows) (sym c.draft_sign-made.ensures) ∙ o)))
 
 pub returns-clause-takes : goal.returns-clause-takes
 returns-clause-takes c =
@@ -23,9 +23,9 @@ returns-clause-takes c =
     let v = c.args.peer in
     let found = subst (λ (x : RouterView). IsFound x.peers v c.args.at) (sym c.self.view_is) c.requires in
     let p = c.index.result.now in
-    let made : draft r.own_open NoMessage c.sign-made.result ≡ signed r.own_open (sides_of r v) c.args.sign =
-    c.sign-made.ensures ∙ ap (λ (s : Side). signed r.own_open s c.args.sign) (sym (stands_at r v c.args.at p found.2 c.index.ensures)) in
-    let carries = subst (λ (x : RouterView). Carries c.carry_out.result x v NoMessage (draft x.own_open NoMessage c.sign-made.result) c.sign-made.result.overflows c.args.stamp c.carry_out.new.self) (sym c.self.view_is)
+    let made : draft r.own_open NoMessage c.draft_sign-made.result ≡ draft_sign r.own_open (sides_of r v) c.args.sign =
+    c.draft_sign-made.ensures ∙ ap (λ (s : Side). draft_sign r.own_open s c.args.sign) (sym (stands_at r v c.args.at p found.2 c.index.ensures)) in
+    let carries = subst (λ (x : RouterView). Carries c.carry_out.result x v NoMessage (draft x.own_open NoMessage c.draft_sign-made.result) c.draft_sign-made.result.overflows c.args.stamp c.carry_out.new.self) (sym c.self.view_is)
     c.carry_out.ensures.carries in
     subst (λ (x : RouterView). TakesSign c.carry_out.result x v c.args.sign c.args.stamp c.carry_out.new.self) c.self.view_is
     (subst (λ (a : Draft). Carries c.carry_out.result r v NoMessage a a.overflows c.args.stamp c.carry_out.new.self) made carries)

@@ -31,8 +31,8 @@ returns-in_err-stamp-clause-tells c =
     (subst (λ (x : RouterView). (v : ℕ) → IsAt x.peers v c.args.at → Tells (Err (no_step r.stamp)) x v q x) c.self.view_is (λ v at.
     ends_no_step (nat_lt GREATEST_STAMP (r.stamp + 1)) (plain_of r) (told_to (plain_of r) r.net r.number v q)))
 
-pub telling-requires-clause-named : goal.telling-requires-clause-named
-telling-requires-clause-named c =
+pub path_to_tell-requires-clause-named : goal.path_to_tell-requires-clause-named
+path_to_tell-requires-clause-named c =
     let r : RouterView = record { net = c.self.inside.network.now; number = c.self.inside.number; own_open = c.self.inside.own_open; peers = c.self.inside.peers.items; tables = c.self.inside.tables; marks = c.self.inside.marks; stamp = c.self.inside.stamp } in
     let q = c.args.prefix.now in
     let may = subst (λ (x : RouterView). MayTell x c.args.at q) (sym c.self.view_is) c.requires.may in
@@ -53,19 +53,19 @@ invariant_of-self c =
     let may = subst (λ (x : RouterView). MayTell x c.args.at q) (sym c.self.view_is) c.requires.may in
     let p = c.index_mut.result.now in
     let is = c.index_mut.ensures.value in
-    let kept : Peer = record { number = p.number; end = c.reserve_route.new.self } in
-    let still : side kept.end ≡ sides_of r p.number = c.reserve_route.ensures.side ∙ here r c.self.invariant c.args.at q may p is in
+    let kept : Peer = record { number = p.number; end = c.reserve_path.new.self } in
+    let still : side kept.end ≡ sides_of r p.number = c.reserve_path.ensures.side ∙ here r c.self.invariant c.args.at q may p is in
     sound_still r c.self.invariant p.number c.args.at (place r c.self.invariant c.args.at q may p is) kept refl still
 
-pub returns-in_default-reserve_route-clause-tells : goal.returns-in_default-reserve_route-clause-tells
-returns-in_default-reserve_route-clause-tells c =
+pub returns-in_default-reserve_path-clause-tells : goal.returns-in_default-reserve_path-clause-tells
+returns-in_default-reserve_path-clause-tells c =
     let r : RouterView = record { net = c.self.inside.network.now; number = c.self.inside.number; own_open = c.self.inside.own_open; peers = c.self.inside.peers.items; tables = c.self.inside.tables; marks = c.self.inside.marks; stamp = c.self.inside.stamp } in
     let q = c.args.prefix.now in
     let may = subst (λ (x : RouterView). MayTell x c.args.at q) (sym c.self.view_is) c.requires.may in
     let p = c.index_mut.result.now in
     let is = c.index_mut.ensures.value in
-    let kept : Peer = record { number = p.number; end = c.reserve_route.new.self } in
-    let still : side kept.end ≡ sides_of r p.number = c.reserve_route.ensures.side ∙ here r c.self.invariant c.args.at q may p is in
+    let kept : Peer = record { number = p.number; end = c.reserve_path.new.self } in
+    let still : side kept.end ≡ sides_of r p.number = c.reserve_path.ensures.side ∙ here r c.self.invariant c.args.at q may p is in
     let early : nat_lt GREATEST_STAMP (r.stamp + 1) ≡ false = c.in_ok-stamp.ensures.next.1 in
     subst (λ (x : RouterView). (v : ℕ) → IsAt x.peers v c.args.at → Tells (Err error.Memory) x v q (with_peer_and_tables r c.args.at kept r.tables r.stamp)) c.self.view_is (λ v at.
     rw early (refl, plain_still r c.self.invariant p.number c.args.at (place r c.self.invariant c.args.at q may p is) kept refl still))
@@ -93,8 +93,8 @@ invariant_of-self-in_default-tell_at c =
     let may = subst (λ (x : RouterView). MayTell x c.args.at q) (sym c.self.view_is) c.requires.may in
     let p = c.index_mut.result.now in
     let is = c.index_mut.ensures.value in
-    let kept : Peer = record { number = p.number; end = c.reserve_route.new.self } in
-    let still : side kept.end ≡ sides_of r p.number = c.reserve_route.ensures.side ∙ here r c.self.invariant c.args.at q may p is in
+    let kept : Peer = record { number = p.number; end = c.reserve_path.new.self } in
+    let still : side kept.end ≡ sides_of r p.number = c.reserve_path.ensures.side ∙ here r c.self.invariant c.args.at q may p is in
     rw c.in_default-tell_at.ensures.err (sound_still r c.self.invariant p.number c.args.at (place r c.self.invariant c.args.at q may p is) kept refl still)
 
 pub returns-in_default-tell_at-clause-tells : goal.returns-in_default-tell_at-clause-tells
@@ -104,31 +104,31 @@ returns-in_default-tell_at-clause-tells c =
     let may = subst (λ (x : RouterView). MayTell x c.args.at q) (sym c.self.view_is) c.requires.may in
     let p = c.index_mut.result.now in
     let is = c.index_mut.ensures.value in
-    let kept : Peer = record { number = p.number; end = c.reserve_route.new.self } in
-    let still : side kept.end ≡ sides_of r p.number = c.reserve_route.ensures.side ∙ here r c.self.invariant c.args.at q may p is in
+    let kept : Peer = record { number = p.number; end = c.reserve_path.new.self } in
+    let still : side kept.end ≡ sides_of r p.number = c.reserve_path.ensures.side ∙ here r c.self.invariant c.args.at q may p is in
     let early : nat_lt GREATEST_STAMP (r.stamp + 1) ≡ false = c.in_ok-stamp.ensures.next.1 in
     rw c.in_default-tell_at.ensures.err
     (subst (λ (x : RouterView). (v : ℕ) → IsAt x.peers v c.args.at → Tells (Err error.Memory) x v q (with_peer_and_tables r c.args.at kept r.tables r.stamp)) c.self.view_is (λ v at.
     rw early (refl, plain_still r c.self.invariant p.number c.args.at (place r c.self.invariant c.args.at q may p is) kept refl still)))
 
-pub tell_route-requires-clause-up : goal.tell_route-requires-clause-up
-tell_route-requires-clause-up c =
+pub tell_path-requires-clause-up : goal.tell_path-requires-clause-up
+tell_path-requires-clause-up c =
     let r : RouterView = record { net = c.self.inside.network.now; number = c.self.inside.number; own_open = c.self.inside.own_open; peers = c.self.inside.peers.items; tables = c.self.inside.tables; marks = c.self.inside.marks; stamp = c.self.inside.stamp } in
     let q = c.args.prefix.now in
     let may = subst (λ (x : RouterView). MayTell x c.args.at q) (sym c.self.view_is) c.requires.may in
     let p = c.index_mut.result.now in
     let is = c.index_mut.ensures.value in
-    let kept : Peer = record { number = p.number; end = c.reserve_route.new.self } in
-    let still : side kept.end ≡ sides_of r p.number = c.reserve_route.ensures.side ∙ here r c.self.invariant c.args.at q may p is in
+    let kept : Peer = record { number = p.number; end = c.reserve_path.new.self } in
+    let still : side kept.end ≡ sides_of r p.number = c.reserve_path.ensures.side ∙ here r c.self.invariant c.args.at q may p is in
     ap is_up still ∙ up r c.self.invariant c.args.at q may p is
 
-pub tell_route-requires-clause-sayable : goal.tell_route-requires-clause-sayable
-tell_route-requires-clause-sayable c =
+pub tell_path-requires-clause-sayable : goal.tell_path-requires-clause-sayable
+tell_path-requires-clause-sayable c =
     let r : RouterView = record { net = c.self.inside.network.now; number = c.self.inside.number; own_open = c.self.inside.own_open; peers = c.self.inside.peers.items; tables = c.self.inside.tables; marks = c.self.inside.marks; stamp = c.self.inside.stamp } in
     let q = c.args.prefix.now in
     let may = subst (λ (x : RouterView). MayTell x c.args.at q) (sym c.self.view_is) c.requires.may in
     let p = c.index_mut.result.now in
-    let width : (side c.reserve_route.new.self).width ≡ r.net.settings.width = ap (λ (s : Side). s.width) c.reserve_route.ensures.side ∙ has_width r c.self.invariant c.args.at q may p c.index_mut.ensures.value in
+    let width : (side c.reserve_path.new.self).width ≡ r.net.settings.width = ap (λ (s : Side). s.width) c.reserve_path.ensures.side ∙ has_width r c.self.invariant c.args.at q may p c.index_mut.ensures.value in
     subst (λ (w : Width). IsSayable w (UpdateMsg c.in-Ok.route)) (sym width) c.in-Ok.ensures.sayable
 
 pub invariant_of-self-2 : goal.invariant_of-self-2
@@ -138,12 +138,12 @@ invariant_of-self-2 c =
     let may = subst (λ (x : RouterView). MayTell x c.args.at q) (sym c.self.view_is) c.requires.may in
     let p = c.index_mut.result.now in
     let is = c.index_mut.ensures.value in
-    let told_peer : Peer = record { number = p.number; end = c.tell_route.new.self } in
+    let told_peer : Peer = record { number = p.number; end = c.tell_path.new.self } in
     let update : c.in-Ok.route ≡ telling (identifier r.net.routers r.number) q (path_of r.tables.kept q) =
     c.in-Ok.ensures.update ∙ ap (telling (identifier r.net.routers r.number) q) c.path_at.ensures in
-    let before : side c.reserve_route.new.self ≡ sides_of r p.number = c.reserve_route.ensures.side ∙ here r c.self.invariant c.args.at q may p is in
+    let before : side c.reserve_path.new.self ≡ sides_of r p.number = c.reserve_path.ensures.side ∙ here r c.self.invariant c.args.at q may p is in
     let says : side told_peer.end ≡ told (sides_of r p.number) (telling (identifier r.net.routers r.number) q (path_of r.tables.kept q)) =
-    c.tell_route.ensures ∙ ap (λ (s : Side). told s c.in-Ok.route) before ∙ ap (told (sides_of r p.number)) update in
+    c.tell_path.ensures ∙ ap (λ (s : Side). told s c.in-Ok.route) before ∙ ap (told (sides_of r p.number)) update in
     let few : r.stamp + 1 ≤ GREATEST_STAMP = grind (arith, nat_tests, c.in_ok-stamp.ensures.next.1) in
     rw c.in_ok-stamp.ensures.next.0
     (sound_told r c.self.invariant p.number c.args.at (place r c.self.invariant c.args.at q may p is) told_peer refl q (up r c.self.invariant c.args.at q may p is) c.tell_at.new.self c.in-Ok-tell_at.ensures.ok says (r.stamp + 1) few)
@@ -155,12 +155,12 @@ returns-clause-tells c =
     let may = subst (λ (x : RouterView). MayTell x c.args.at q) (sym c.self.view_is) c.requires.may in
     let p = c.index_mut.result.now in
     let is = c.index_mut.ensures.value in
-    let told_peer : Peer = record { number = p.number; end = c.tell_route.new.self } in
+    let told_peer : Peer = record { number = p.number; end = c.tell_path.new.self } in
     let update : c.in-Ok.route ≡ telling (identifier r.net.routers r.number) q (path_of r.tables.kept q) =
     c.in-Ok.ensures.update ∙ ap (telling (identifier r.net.routers r.number) q) c.path_at.ensures in
-    let before : side c.reserve_route.new.self ≡ sides_of r p.number = c.reserve_route.ensures.side ∙ here r c.self.invariant c.args.at q may p is in
+    let before : side c.reserve_path.new.self ≡ sides_of r p.number = c.reserve_path.ensures.side ∙ here r c.self.invariant c.args.at q may p is in
     let says : side told_peer.end ≡ told (sides_of r p.number) (telling (identifier r.net.routers r.number) q (path_of r.tables.kept q)) =
-    c.tell_route.ensures ∙ ap (λ (s : Side). told s c.in-Ok.route) before ∙ ap (told (sides_of r p.number)) update in
+    c.tell_path.ensures ∙ ap (λ (s : Side). told s c.in-Ok.route) before ∙ ap (told (sides_of r p.number)) update in
     let early : nat_lt GREATEST_STAMP (r.stamp + 1) ≡ false = c.in_ok-stamp.ensures.next.1 in
     let all : Tells (Ok stepped.Did) r p.number q (with_peer_and_tables r c.args.at told_peer c.tell_at.new.self (r.stamp + 1)) =
     rw early (refl, plain_told r c.self.invariant p.number c.args.at (place r c.self.invariant c.args.at q may p is) told_peer refl q (up r c.self.invariant c.args.at q may p is) c.tell_at.new.self c.in-Ok-tell_at.ensures.ok says (r.stamp + 1) refl) in

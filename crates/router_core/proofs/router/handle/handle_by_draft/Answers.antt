@@ -6,7 +6,7 @@ use Rattle.bgp_codec.specs.declared.rule.Rule.{Rule}
 use Rattle.bgp_codec.specs.Spelling.{IsWritable}
 use Rattle.snap_marker.specs.Recordings.{Snapshots, closed}
 use Rattle.session_fsm.specs.declared.event.FsmEvent.{FsmEvent}
-use Rattle.router_model.specs.Sides.{Side, AtHand, carried, comes, draft_of, at_hand, event_of, front, without_front}
+use Rattle.router_model.specs.Sides.{Side, AtHand, carried, react, draft_of, at_hand, event_of, front, without_front}
 use Rattle.router_model.specs.Step.{close_at}
 use Rattle.router_side.specs.Drafts.{draft, hand}
 use Rattle.router_side.specs.SideOf.{side, IsInFront}
@@ -38,7 +38,7 @@ returns-clause-ok c =
     let s = side c.args.end.now in
     let m = front c.args.rule.now s.held in
     let h = hand c.opened-event.result.1 in
-    let a = draft o h c.handle-made.result in
+    let a = draft o h c.draft_message-made.result in
     let read = c.in_ok-read.ensures.read in
     let hand_is = c.opened-event.ensures.given ∙ ap at_hand read in
     let event_is = c.opened-event.ensures.event ∙ ap event_of read in
@@ -49,8 +49,8 @@ returns-clause-ok c =
       between = c.hear.new.tables;
       hand_is = hand_is;
       draft_is =
-          c.handle-made.ensures ∙ ap (λ (k : AtHand). comes o k (draft_of s.session s.link) c.opened-event.result.0) hand_is
-          ∙ ap (λ (e : FsmEvent). comes o (at_hand m) (draft_of s.session s.link) e) event_is;
+          c.draft_message-made.ensures ∙ ap (λ (k : AtHand). react o k (draft_of s.session s.link) c.opened-event.result.0) hand_is
+          ∙ ap (λ (e : FsmEvent). react o (at_hand m) (draft_of s.session s.link) e) event_is;
       side = c.carry_front.ensures.side ∙ ap (λ (z : Side). carried h (without_front z) a) reserved;
       hears = c.in_ok-hear.ensures.ok;
       follows = subst (λ (z : Side). Followed c.hear.new.tables c.carry_front.new.tables c.args.peer (standing z) (standing (side c.carry_front.new.end))) reserved c.carry_front.ensures.tables;

@@ -1,6 +1,6 @@
 use Rattle.std.proofs.Common.{◌∙◌, List, ap, sym}
 use Rattle.router_model.specs.Sides.{with_update}
-use Rattle.router_side.specs.declared.history.Told.{Told}
+use Rattle.router_side.specs.declared.history.PastUpdate.{PastUpdate}
 use Rattle.router_side.specs.Histories.{history, told_stored, told_by_blocks, told_with, places_of, spelt_in}
 use Rattle.router_side.proofs.Kept.{told_behind, grown_behind}
 use Rattle.router_side.proofs.history.History.keep_frame.Goals as goal
@@ -16,5 +16,5 @@ returns c = λ width u read.
     let new = c.keep_frame.new.self in
     ap history (told_behind width bs (places_of new.places.items) (spelt_in new.places.items new.octets.items) c.self.invariant.0)
     ∙ grown_behind (told_by_blocks width bs) (told_stored width old.places.items old.octets.items) (told_stored width new.places.items new.octets.items) c.args.epoch u (c.keep_frame.ensures.told width u read)
-    ∙ ap (λ (ts : List Told). with_update (history ts) c.args.epoch u) (sym (told_behind width bs (places_of old.places.items) (spelt_in old.places.items old.octets.items) c.self.invariant.0))
+    ∙ ap (λ (ts : List PastUpdate). with_update (history ts) c.args.epoch u) (sym (told_behind width bs (places_of old.places.items) (spelt_in old.places.items old.octets.items) c.self.invariant.0))
     ∙ ap (λ v. with_update (history (told_with width v)) c.args.epoch u) c.self.view_is

@@ -18,4 +18,4 @@ returns-clause-book c =
     let joined = length-append c.args.self.now.offers.items (c.args.offer ∷ []) in
     let now = c.len-self.ensures in
     booked_with (map member_of c.args.members.now) c.args.self.now.offers.items c.push_reserved-2.new.self.items c.as_slice.result.now c.args.offer c.args.self.now.kept c.args.self.now.awaited c.len-self.result
-    c.awaited_with-awaited.result c.if-self-eq0.false c.as_slice.ensures.value c.push_reserved-2.ensures.items (omega (arith, before, same, more, items, joined, now)) c.requires.book c.awaited_with-awaited.ensures
+    c.missing_with-awaited.result c.if-self-eq0.false c.as_slice.ensures.value c.push_reserved-2.ensures.items (omega (arith, before, same, more, items, joined, now)) c.requires.book c.missing_with-awaited.ensures

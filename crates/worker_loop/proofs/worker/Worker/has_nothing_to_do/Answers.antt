@@ -15,7 +15,7 @@ loop-place-preserved g c =
     let below : i < length peers = omega (arith, c.loop-place-test.true, c.len-place-end.ensures) in
     record {
       quiet = subst (All (IsQuiet x)) (sym (one_more peers i v below c.index.ensures))
-          (All-push (IsQuiet x) (take i peers) v c.loop-place.invariant.quiet (λ cut. sym (c.is_quiet.ensures cut) ∙ c.if-not-is_quiet.false));
+          (All-push (IsQuiet x) (take i peers) v c.loop-place.invariant.quiet (λ cut. sym (c.link_is_idle.ensures cut) ∙ c.if-not-link_is_idle.false));
     }
 
 pub returns : goal.returns
@@ -25,5 +25,5 @@ returns g c = λ idle k net set.
     let i = c.loop-place.place in
     let far : length peers ≤ i = omega (arith, c.loop-place-test.false, c.len-place-end.ensures) in
     let quiet = subst (All (IsQuiet x)) (take_all i peers far) c.loop-place.invariant.quiet in
-    turn_of_nothing k x peers (seen_of g.L.Lines.put_to g.L.Lines.taken_from g.L.Lines.room g.D.Desk.made c.args.self.now) net set refl quiet
+    turn_of_nothing k x peers (seen_of g.L.Pipes.put_to g.L.Pipes.taken_from g.L.Pipes.room g.D.Desk.made c.args.self.now) net set refl quiet
     (c.is_idle.ensures.decide idle) (c.is_idle.ensures.advertise idle) (c.is_idle.ensures.offer idle)

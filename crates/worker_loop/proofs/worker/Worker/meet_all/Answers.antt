@@ -39,5 +39,5 @@ returns-in_err-meet-clause-ended g c =
     if_err c.from_residual.result _ _ (λ ends is. record {
       peer = v;
       is_peer = peer_there peers c.meet.new.self.peers.items l.place v below (c.index-peer.ensures ∙ ap (λ xs. get_or xs l.place v) same.peers) (m.same.later.peers ∙ same.peers);
-      ends = subst (EndsMeet g.L.Lines.taken_from c.meet.new.self v) (sym is) m.ended;
+      ends = subst (EndsMeet g.L.Pipes.taken_from c.meet.new.self v) (sym is) m.ended;
     }) c.from_residual.ensures.1

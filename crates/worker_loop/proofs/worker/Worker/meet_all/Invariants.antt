@@ -7,7 +7,7 @@ use Rattle.worker_loop.proofs.worker.Worker.meet_all.Given as goal
 abbrev pub invariant-loop-place : goal.invariant-loop-place
 invariant-loop-place g l = record {
   met : Did (λ k. Each (Meets k l.fn.self.router.number) (take l.place l.fn.self.peers.items)) l.fn.self.router.net
-      (seen_of g.L.Lines.put_to g.L.Lines.taken_from g.L.Lines.room g.D.Desk.made l.fn.self)
-      (seen_of g.L.Lines.put_to g.L.Lines.taken_from g.L.Lines.room g.D.Desk.made l.self);
-  same : IsSameWorker g.L.Lines.wiring l.fn.self l.self;
+      (seen_of g.L.Pipes.put_to g.L.Pipes.taken_from g.L.Pipes.room g.D.Desk.made l.fn.self)
+      (seen_of g.L.Pipes.put_to g.L.Pipes.taken_from g.L.Pipes.room g.D.Desk.made l.self);
+  same : IsSameWorker g.L.Pipes.wiring l.fn.self l.self;
 }

@@ -27,8 +27,8 @@ returns-clause-ended g c =
     let i = c.in-Some.item in
     record {
       item = i;
-      before = g.L.Lines.taken_from c.args.self.now.lines c.args.peer;
-      taken = taken_last (g.L.Lines.taken_from c.args.self.now.lines) (g.L.Lines.taken_from c.take.new.self) c.args.peer i c.in-Some.ensures.taken;
+      before = g.L.Pipes.taken_from c.args.self.now.lines c.args.peer;
+      taken = taken_last (g.L.Pipes.taken_from c.args.self.now.lines) (g.L.Pipes.taken_from c.take.new.self) c.args.peer i c.in-Some.ensures.taken;
       ends = rw c.lost.ensures
           (take_ends x c.take-2.new.self c.args.peer i c.in-Err.error _ (sym c.may_take.ensures ∙ c.if-not-may_take.false) (λ k. refl) c.in-Err.ensures.answers c.take-2.ensures.same);
     }

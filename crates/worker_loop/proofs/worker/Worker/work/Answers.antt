@@ -10,7 +10,7 @@ use Rattle.worker_loop.proofs.worker.Worker.work.Goals as goal
 
 pub one-requires : goal.one-requires
 one-requires g c = λ passes.
-    may_still g.L.Lines.put_to g.L.Lines.taken_from g.L.Lines.room g.D.Desk.made _ _ c.in_ok-chore.ensures.rest (c.loop-turn.invariant.passes passes)
+    may_still g.L.Pipes.put_to g.L.Pipes.taken_from g.L.Pipes.room g.D.Desk.made _ _ c.in_ok-chore.ensures.rest (c.loop-turn.invariant.passes passes)
 
 pub returns-in-Stop-clause-follows : goal.returns-in-Stop-clause-follows
 returns-in-Stop-clause-follows g c =
@@ -20,7 +20,7 @@ returns-in-Stop-clause-follows g c =
     let n = c.in_ok-chore.ensures in
     let o = c.in_ok-passes.ensures in
     did_more (λ k x. Obeys k u c.args.self.now.peers.items x) net _ _ c.in_ok-chore.chore _ _ _ (ap g.G.Gate.given o.same.gate ∙ n.given) i.follows
-    (did_from (λ k. Obeys k u c.args.self.now.peers.items c.in_ok-chore.chore) net _ _ _ (seen_same g.L.Lines.put_to g.L.Lines.taken_from g.L.Lines.room g.D.Desk.made _ _ n.rest)
+    (did_from (λ k. Obeys k u c.args.self.now.peers.items c.in_ok-chore.chore) net _ _ _ (seen_same g.L.Pipes.put_to g.L.Pipes.taken_from g.L.Pipes.room g.D.Desk.made _ _ n.rest)
     (did_at (λ v k. Obeys k v c.args.self.now.peers.items c.in_ok-chore.chore) net _ u _ _ _ (next_same _ _ _ _ i.same n.rest).net (next_same _ _ _ _ i.same n.rest).number
     (obeys_of _ _ _ _ _ _ _ (next_same _ _ _ _ i.same n.rest).peers o.done)))
 
@@ -35,7 +35,7 @@ loop-turn-preserved g c =
     let here = next_same _ _ _ _ i.same n.rest in
     record {
       follows = did_more (λ k x. Obeys k u c.args.self.now.peers.items x) net _ _ c.in_ok-chore.chore _ _ _ given i.follows
-          (did_from (λ k. Obeys k u c.args.self.now.peers.items c.in_ok-chore.chore) net _ _ _ (seen_same g.L.Lines.put_to g.L.Lines.taken_from g.L.Lines.room g.D.Desk.made _ _ n.rest)
+          (did_from (λ k. Obeys k u c.args.self.now.peers.items c.in_ok-chore.chore) net _ _ _ (seen_same g.L.Pipes.put_to g.L.Pipes.taken_from g.L.Pipes.room g.D.Desk.made _ _ n.rest)
           (did_at (λ v k. Obeys k v c.args.self.now.peers.items c.in_ok-chore.chore) net _ u _ _ _ here.net here.number (obeys_of _ _ _ _ _ _ _ here.peers o.done)));
       counted = one_longer _ _ _ c.loop-turn.turn given i.counted;
       goes_on = all_more (λ x. x ≢ Stop) _ _ _ given i.goes_on c.in_default.not-Stop;
@@ -71,6 +71,6 @@ returns-in_err-passes-clause-ended g c =
         before = before;
         chore = c.in_ok-chore.chore;
         last = given;
-        ends = subst (EndsChore g.L.Lines.taken_from c.one.new.self c.in_ok-chore.chore) (sym is) o.ended;
+        ends = subst (EndsChore g.L.Pipes.taken_from c.one.new.self c.in_ok-chore.chore) (sym is) o.ended;
       });
     }) c.from_residual-in_err-passes.ensures.1

@@ -8,12 +8,12 @@ use Rattle.worker_loop.proofs.worker.Worker.work.Given as goal
 abbrev pub invariant-loop-turn : goal.invariant-loop-turn
 invariant-loop-turn g l = record {
   follows : Did (λ k. Follows k l.fn.self.router.number l.fn.self.peers.items (g.G.Gate.given l.self.gate)) l.fn.self.router.net
-      (seen_of g.L.Lines.put_to g.L.Lines.taken_from g.L.Lines.room g.D.Desk.made l.fn.self)
-      (seen_of g.L.Lines.put_to g.L.Lines.taken_from g.L.Lines.room g.D.Desk.made l.self);
+      (seen_of g.L.Pipes.put_to g.L.Pipes.taken_from g.L.Pipes.room g.D.Desk.made l.fn.self)
+      (seen_of g.L.Pipes.put_to g.L.Pipes.taken_from g.L.Pipes.room g.D.Desk.made l.self);
   counted : l.turn ≡ length (g.G.Gate.given l.self.gate);
   goes_on : All (λ c. c ≢ Stop) (g.G.Gate.given l.self.gate);
   chores : l.self.journal.chores.items ≡ g.G.Gate.given l.self.gate;
-  same : IsLaterWorker g.L.Lines.wiring l.fn.self l.self;
-  passes : IsTrue l.passes → MayPass g.L.Lines.put_to g.L.Lines.taken_from g.L.Lines.room g.D.Desk.made l.self;
+  same : IsLaterWorker g.L.Pipes.wiring l.fn.self l.self;
+  passes : IsTrue l.passes → MayPass g.L.Pipes.put_to g.L.Pipes.taken_from g.L.Pipes.room g.D.Desk.made l.self;
   told : g.G.Gate.told l.self.gate ≡ g.G.Gate.told l.fn.self.gate;
 }

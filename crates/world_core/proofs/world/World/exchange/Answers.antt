@@ -6,8 +6,8 @@ use Rattle.world_core.proofs.Awake.{takes_spare}
 use Rattle.world_core.proofs.Watched.{watched_before, watched_behind, quiet_over, own_watched}
 use Rattle.world_core.proofs.world.World.exchange.Goals as goal
 
-pub returns-then-is_quiet_at-clause-watches : goal.returns-then-is_quiet_at-clause-watches
-returns-then-is_quiet_at-clause-watches g c = quiet_over g.W.Watch.says g.W.Watch.may_want c.args.self.now c.args.number c.args.peer (g.W.Watch.said c.args.watcher.now) (c.is_quiet_at.ensures c.if-is_quiet_at.true)
+pub returns-then-link_is_idle_at-clause-watches : goal.returns-then-link_is_idle_at-clause-watches
+returns-then-link_is_idle_at-clause-watches g c = quiet_over g.W.Watch.says g.W.Watch.may_want c.args.self.now c.args.number c.args.peer (g.W.Watch.said c.args.watcher.now) (c.link_is_idle_at.ensures c.if-link_is_idle_at.true)
 
 pub returns-in_err-put-clause-watches : goal.returns-in_err-put-clause-watches
 returns-in_err-put-clause-watches g c =

@@ -3,7 +3,7 @@ use Rattle.std.specs.List.{flat_map}
 use Rattle.std.specs.Prelude.{slice_get}
 use Rattle.std.proofs.lemmas.Result.{err_from_is_err_and}
 use Rattle.std.proofs.lemmas.List.Folds.{flat_map-map}
-use Rattle.ranked_policy.specs.declared.network.Router.{Router}
+use Rattle.ranked_policy.specs.declared.network.NetRouter.{NetRouter}
 use Rattle.ranked_policy.specs.Plans.{Plan, numbers}
 use Rattle.world_core.specs.declared.schedule.Event.{Event}
 use Rattle.world_core.specs.Orders.{turn, round}
@@ -22,7 +22,7 @@ visit-requires-clause-router g c =
     let items = c.routers-router-items.result.now in
     let inside : l.at < length items = omega (arith, c.loop-at-test.true) in
     let all = c.routers-router-items.ensures.value ∙ ap (λ (n : Plan). n.routers) (c.network.ensures ∙ sym l.invariant.net) in
-    subst (λ (rs : List Router). slice_get (numbers rs) l.at ≡ Some c.router-item.result.asn) all (router_at items l.at c.router-item.result inside c.router-item.is)
+    subst (λ (rs : List NetRouter). slice_get (numbers rs) l.at ≡ Some c.router-item.result.asn) all (router_at items l.at c.router-item.result inside c.router-item.is)
 
 pub returns-in_err-visit-clause-watches : goal.returns-in_err-visit-clause-watches
 returns-in_err-visit-clause-watches g c =
@@ -32,10 +32,10 @@ returns-in_err-visit-clause-watches g c =
     let z = c.visit.new.self in
     let a = c.router-item.result in
     let items = c.routers-router-items.result.now in
-    let f : Router → List Event = (λ r. turn x.net r.asn) in
+    let f : NetRouter → List Event = (λ r. turn x.net r.asn) in
     let inside : l.at < length items = omega (arith, c.loop-at-test.true) in
     let all = c.routers-router-items.ensures.value ∙ ap (λ (n : Plan). n.routers) c.network.ensures in
-    let whole : flat_map f items ≡ round x.net = sym (flat_map-map (turn x.net) (λ r. r.asn) items) ∙ ap (λ (rs : List Router). flat_map (turn x.net) (numbers rs)) all in
+    let whole : flat_map f items ≡ round x.net = sym (flat_map-map (turn x.net) (λ r. r.asn) items) ∙ ap (λ (rs : List NetRouter). flat_map (turn x.net) (numbers rs)) all in
     let why = c.in_err-visit.field-0.0 in
     let new = (g.W.Watch.said c.visit.new.watcher) in
     rw (p.1, p.2)
@@ -49,7 +49,7 @@ loop-at-preserved g c =
     let z = c.visit.new.self in
     let a = c.router-item.result in
     let items = c.routers-router-items.result.now in
-    let f : Router → List Event = (λ r. turn x.net r.asn) in
+    let f : NetRouter → List Event = (λ r. turn x.net r.asn) in
     let inside : l.at < length items = omega (arith, c.loop-at-test.true) in
     let new = (g.W.Watch.said c.visit.new.watcher) in
     record {
@@ -64,7 +64,7 @@ returns-clause-watches g c =
     let x = c.args.self.now in
     let l = c.loop-at in
     let items = c.routers-router-items.result.now in
-    let f : Router → List Event = (λ r. turn x.net r.asn) in
+    let f : NetRouter → List Event = (λ r. turn x.net r.asn) in
     let all = c.routers-router-items.ensures.value ∙ ap (λ (n : Plan). n.routers) c.network.ensures in
-    let whole : flat_map f items ≡ round x.net = sym (flat_map-map (turn x.net) (λ r. r.asn) items) ∙ ap (λ (rs : List Router). flat_map (turn x.net) (numbers rs)) all in
+    let whole : flat_map f items ≡ round x.net = sym (flat_map-map (turn x.net) (λ r. r.asn) items) ∙ ap (λ (rs : List NetRouter). flat_map (turn x.net) (numbers rs)) all in
     subst (λ (k : List Event). WatchesEvents g.W.Watch.says g.W.Watch.may_want (Ok tt) x k (g.W.Watch.said c.args.watcher.now) l.self (g.W.Watch.said l.watcher)) (all_done f items l.at c.loop-at-test.false ∙ whole) l.invariant.done

@@ -2,7 +2,7 @@
 use Rattle.std.proofs.Common.{◌≡◌, take, Ok}
 use Rattle.std.specs.List.{flat_map}
 use Rattle.world_core.specs.Orders.{turn}
-use Rattle.world_core.specs.Resting.{AreResting}
+use Rattle.world_core.specs.IdleTurns.{TurnsAreIdle}
 use Rattle.world_core.specs.Watching.{WatchesEvents}
 use Rattle.world_core.proofs.world.World.round.Given as goal
 
@@ -11,5 +11,5 @@ invariant-loop-at g l =
     record {
       net : l.self.net ≡ l.fn.self.net;
       done : WatchesEvents g.W.Watch.says g.W.Watch.may_want (Ok tt) l.fn.self (flat_map (λ r. turn l.fn.self.net r.asn) (take l.at l.router-items)) (g.W.Watch.said l.fn.watcher) l.self (g.W.Watch.said l.watcher);
-      resting : AreResting l.self l.marks.items;
+      resting : TurnsAreIdle l.self l.marks.items;
     }

@@ -2,7 +2,7 @@ use Rattle.std.proofs.Common.{◌≡◌, ◌+◌, ◌<◌, arith, length, map, L
 use Rattle.std.specs.List.{flat_map}
 use Rattle.std.specs.Prelude.{slice_get, Some}
 use Rattle.std.proofs.lemmas.Result.{err_from_is_err_and}
-use Rattle.ranked_policy.specs.declared.network.Router.{Router}
+use Rattle.ranked_policy.specs.declared.network.NetRouter.{NetRouter}
 use Rattle.ranked_policy.specs.Plans.{Plan, numbers}
 use Rattle.world_core.specs.declared.schedule.Event.{Event}
 use Rattle.world_core.specs.declared.schedule.Event.TheVariants as schedule
@@ -22,7 +22,7 @@ watched-requires g c =
     let items = c.routers-router-items.result.now in
     let inside : l.at < length items = omega (arith, c.loop-at-test.true) in
     let all = c.routers-router-items.ensures.value ∙ ap (λ (n : Plan). n.routers) (c.network.ensures ∙ sym l.invariant.net) in
-    subst (λ (rs : List Router). slice_get (numbers rs) l.at ≡ Some c.router-item.result.asn) all (router_at items l.at c.router-item.result inside c.router-item.is)
+    subst (λ (rs : List NetRouter). slice_get (numbers rs) l.at ≡ Some c.router-item.result.asn) all (router_at items l.at c.router-item.result inside c.router-item.is)
 
 pub returns-in_err-watched-clause-watches : goal.returns-in_err-watched-clause-watches
 returns-in_err-watched-clause-watches g c =
@@ -31,10 +31,10 @@ returns-in_err-watched-clause-watches g c =
     let l = c.loop-at in
     let a = c.router-item.result in
     let items = c.routers-router-items.result.now in
-    let f : Router → List Event = (λ r. schedule.Tick r.asn ∷ []) in
+    let f : NetRouter → List Event = (λ r. schedule.Tick r.asn ∷ []) in
     let inside : l.at < length items = omega (arith, c.loop-at-test.true) in
     let all = c.routers-router-items.ensures.value ∙ ap (λ (n : Plan). n.routers) c.network.ensures in
-    let whole : flat_map f items ≡ second x.net = ticks_are items ∙ ap (λ (rs : List Router). map (λ u. schedule.Tick u) (numbers rs)) all in
+    let whole : flat_map f items ≡ second x.net = ticks_are items ∙ ap (λ (rs : List NetRouter). map (λ u. schedule.Tick u) (numbers rs)) all in
     rw (p.1, p.2)
     (watched_until g.W.Watch.says g.W.Watch.may_want x l.self c.watched.new.self (flat_map f (take l.at items)) (schedule.Tick a.asn ∷ []) (flat_map f (drop (l.at + 1) items)) (second x.net) (g.W.Watch.said c.args.watcher.now)
     (g.W.Watch.said l.watcher) (g.W.Watch.said c.watched.new.watcher) c.in_err-watched.field-0.0 (one_among f items l.at a inside c.router-item.is ∙ whole) l.invariant.net l.invariant.done c.in_err-watched.ensures.watches)
@@ -45,7 +45,7 @@ loop-at-preserved g c =
     let l = c.loop-at in
     let a = c.router-item.result in
     let items = c.routers-router-items.result.now in
-    let f : Router → List Event = (λ r. schedule.Tick r.asn ∷ []) in
+    let f : NetRouter → List Event = (λ r. schedule.Tick r.asn ∷ []) in
     let inside : l.at < length items = omega (arith, c.loop-at-test.true) in
     record {
       net = c.watched.ensures.same ∙ l.invariant.net;
@@ -58,7 +58,7 @@ returns-clause-watches g c =
     let x = c.args.self.now in
     let l = c.loop-at in
     let items = c.routers-router-items.result.now in
-    let f : Router → List Event = (λ r. schedule.Tick r.asn ∷ []) in
+    let f : NetRouter → List Event = (λ r. schedule.Tick r.asn ∷ []) in
     let all = c.routers-router-items.ensures.value ∙ ap (λ (n : Plan). n.routers) c.network.ensures in
-    let whole : flat_map f items ≡ second x.net = ticks_are items ∙ ap (λ (rs : List Router). map (λ u. schedule.Tick u) (numbers rs)) all in
+    let whole : flat_map f items ≡ second x.net = ticks_are items ∙ ap (λ (rs : List NetRouter). map (λ u. schedule.Tick u) (numbers rs)) all in
     subst (λ (k : List Event). WatchesEvents g.W.Watch.says g.W.Watch.may_want (Ok tt) x k (g.W.Watch.said c.args.watcher.now) l.self (g.W.Watch.said l.watcher)) (all_done f items l.at c.loop-at-test.false ∙ whole) l.invariant.done

@@ -1,9 +1,0 @@
-use Rattle.std.proofs.Common.{ap, sym, ◌∙◌}
-use Rattle.net_workers.specs.declared.ends.Ends.{Ends}
-use Rattle.net_workers.proofs.Dealt.{popped_by}
-use Rattle.net_workers.proofs.dealing.last_lane.Goals as goal
-
-pub returns-clause-some : goal.returns-clause-some
-returns-clause-some c =
-    popped_by c.args.ends.now.items c.args.at c.index_mut.result.now (record { lanes = c.pop.new.self }) c.pop.result c.requires.below
-    (sym (ap (λ (e : Ends). e.lanes.items) c.index_mut.ensures.value) ∙ c.pop.ensures.items)

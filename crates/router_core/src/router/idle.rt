@@ -1,0 +1,99 @@
+//! What there is to do with a peer: whether its next item may be taken, whether one waits to be put towards the peer,
+//! and whether nothing is to be put or handled.
+
+ghost use Rattle.std.specs.Prelude.{ℕ, ◌≡◌, ◌&&◌, true, not, is_some, slice_get};
+ghost use Rattle.bgp_framing.specs.Held.{is_waiting};
+ghost use Rattle.outbox.specs.Items.{next_item};
+ghost use Rattle.router_side.specs.SideOf.{side};
+ghost use Rattle.router_model.specs.Settings.{linked, peers};
+ghost use Rattle.router_core.specs.Views.{sides_of};
+
+use super::Router;
+use ranked_policy::Asn;
+use router_side::SideEnd;
+
+impl Router<'_> {
+    /// Whether an item of a peer may be taken: a link leads to the peer, and no whole message or fault of that peer
+    /// waits to be handled. Where it may not, [`Router::take`] is refused.
+    pub fn may_take(&self, peer: Asn) -> bool
+        ensures { result
+            ≡ (linked self.now.net self.now.number peer && not (is_waiting (sides_of self.now peer).held)) }
+    {
+        match self.find(peer) {
+            Some(at) => self.may_take_at(at, peer),
+            None => false,
+        }
+    }
+
+    /// Whether an item of the peer at a place may be taken, as [`Router::may_take`] says.
+    pub fn may_take_at(&self, at: usize, peer: Asn) -> bool
+        requires stands { slice_get (peers self.now.net self.now.number) at ≡ Some peer }
+        ensures { result
+            ≡ (linked self.now.net self.now.number peer && not (is_waiting (sides_of self.now peer).held)) }
+    {
+        !self.end_at(at, peer).is_waiting()
+    }
+
+    /// Whether a router puts nothing towards a peer as it now is: a link leads to the peer, and no item waits in the
+    /// outbox, so that [`Router::next_item`] answers `None`.
+    pub fn puts_nothing(&self, peer: Asn) -> bool
+        ensures { (cut : ℕ)
+            → result
+            ≡ (linked self.now.net self.now.number peer
+            && not (is_some (next_item cut (sides_of self.now peer).outbox))) }
+    {
+        match self.find(peer) {
+            Some(at) => self.puts_nothing_at(at, peer),
+            None => false,
+        }
+    }
+
+    /// Whether a router puts nothing towards the peer at a place, as [`Router::puts_nothing`] says.
+    pub fn puts_nothing_at(&self, at: usize, peer: Asn) -> bool
+        requires stands { slice_get (peers self.now.net self.now.number) at ≡ Some peer }
+        ensures { (cut : ℕ)
+            → result
+            ≡ (linked self.now.net self.now.number peer
+            && not (is_some (next_item cut (sides_of self.now peer).outbox))) }
+    {
+        !self.end_at(at, peer).has_item()
+    }
+
+    /// Whether a router is quiet towards a peer: a link leads to the peer, no item waits in the outbox, and no whole
+    /// message or fault of the peer waits to be handled. Neither a put nor [`Router::handle`] then does anything, and
+    /// an item of the peer may be taken.
+    pub fn link_is_idle(&self, peer: Asn) -> bool
+        ensures { (cut : ℕ)
+            → result
+            ≡ (linked self.now.net self.now.number peer
+            && (not (is_some (next_item cut (sides_of self.now peer).outbox))
+            && not (is_waiting (sides_of self.now peer).held))) }
+    {
+        match self.find(peer) {
+            Some(at) => self.link_is_idle_at(at, peer),
+            None => false,
+        }
+    }
+
+    /// Whether a router is quiet towards the peer at a place, as [`Router::link_is_idle`] says.
+    pub fn link_is_idle_at(&self, at: usize, peer: Asn) -> bool
+        requires stands { slice_get (peers self.now.net self.now.number) at ≡ Some peer }
+        ensures { (cut : ℕ)
+            → result
+            ≡ (linked self.now.net self.now.number peer
+            && (not (is_some (next_item cut (sides_of self.now peer).outbox))
+            && not (is_waiting (sides_of self.now peer).held))) }
+    {
+        self.puts_nothing_at(at, peer) && self.may_take_at(at, peer)
+    }
+
+    // The side towards the peer at a place.
+    fn end_at(&self, at: usize, peer: Asn) -> &SideEnd
+        requires stands { slice_get (peers self.now.net self.now.number) at ≡ Some peer }
+        ensures side { side result.now ≡ sides_of self.now peer }
+        ensures linked { linked self.now.net self.now.number peer ≡ true }
+    {
+        self.peer_stands_at(at, peer);
+        &self.peers[at].end
+    }
+}

@@ -1,0 +1,228 @@
+//! Events that come to all peers of a router: a second that passes, and a restart.
+
+ghost use Rattle.bgp_values.specs.declared.width.Width as widths;
+ghost use Rattle.std.specs.Prelude.{◌≡◌, ◌<◌, ℕ, false, length, get_or, IfOk};
+ghost use Rattle.router_model.specs.Sides.{NoMessage};
+ghost use Rattle.router_model.specs.declared.command.Command.TheVariants.{Restart};
+ghost use Rattle.router_model.specs.Calls.{Tick, Obey};
+ghost use Rattle.router_side.specs.Sayings.{IsSayable};
+ghost use Rattle.router_side.specs.Drafts.{draft};
+ghost use Rattle.router_side.specs.SideOf.{side};
+ghost use Rattle.router_core.specs.declared.peers.Peer as peer;
+ghost use Rattle.router_core.specs.Views.{IsSame, Answers};
+ghost use Rattle.router_core.specs.Calling.{NeedsRoom};
+ghost use Rattle.router_core.specs.Recorded.{Become};
+ghost use Rattle.router_core.specs.ToAll.{draft_by, overflow_in, IsReady, AreReady, MovesSide, MovesAll, runs_out_in, counted_down};
+
+use super::carry::{carry, close};
+use super::{Router, next_stamp, next_stamp_with_room};
+use crate::peers::Peer;
+use bgp_codec::Message;
+use router_model::{RouterError, Stepped};
+use router_side::laws::sessions_keep_fresh;
+use router_side::{Brought, SideDraft, SideEnd};
+use session_fsm::FsmEvent;
+use std::alloc::{AllocError, Global};
+
+// The event that comes to each peer's side.
+#[derive(Clone, Copy)]
+pub(super) enum ToAll {
+    // A second passes.
+    Second,
+    // The session stops.
+    Stop,
+}
+
+// The draft of a side for such an event.
+fn drafted(whole: ToAll, end: &SideEnd, own_open: &Message) -> SideDraft
+    ensures { draft own_open.now NoMessage result ≡ draft_by whole own_open.now (side end.now) }
+{
+    match whole {
+        ToAll::Second => end.draft_second(own_open),
+        ToAll::Stop => end.draft_event(own_open, FsmEvent::ManualStop),
+    }
+}
+
+// Whether a dial of some side would pass the greatest incarnation.
+pub(super) fn overflows(whole: ToAll, peers: &[Peer], own_open: &Message) -> bool
+    ensures { result ≡ overflow_in (draft_by whole own_open.now) peers.now }
+{
+    for peer in peers {
+        if drafted(whole, &peer.end, own_open).overflows {
+            return true;
+        }
+    }
+    false
+}
+
+// The drafts of these sides, with room for each. A refusal leaves the sides as they were.
+fn prepare_each(
+    alloc: Global,
+    whole: ToAll,
+    peers: &mut [Peer],
+    own_open: &Message,
+) -> Result<Vec<SideDraft>, AllocError>
+    requires { (w : widths.Width) → IsSayable w own_open.now }
+    ensures same { Become (λ s. s) peers.old peers.new }
+    ensures ready { IfOk result (λ made. AreReady own_open.now (draft_by whole own_open.now) peers.new made.items) }
+{
+    let mut drafts = Vec::new(alloc);
+    for peer in peers.iter_mut() {
+        let made = drafted(whole, &peer.end, own_open);
+        peer.end.reserve(own_open, &Brought::Nothing, &made)?;
+        drafts.push(made)?;
+    }
+    Ok(drafts)
+}
+
+// Drafts the sides of all peers, with room for each. A refusal leaves the sides as they were.
+fn prepare(
+    alloc: Global,
+    whole: ToAll,
+    peers: &mut Vec<Peer>,
+    own_open: &Message,
+) -> Result<Vec<SideDraft>, AllocError>
+    requires { (w : widths.Width) → IsSayable w own_open.now }
+    ensures same { Become (λ s. s) peers.old.items peers.new.items }
+    ensures ready { IfOk result
+        (λ made. AreReady own_open.now (draft_by whole own_open.now) peers.new.items made.items) }
+{
+    prepare_each(alloc, whole, peers.as_mut_slice(), own_open)
+}
+
+// Whether a timer of some session runs out in the next second.
+fn runs_out(peers: &[Peer]) -> bool
+    ensures { result ≡ runs_out_in peers.now }
+{
+    for peer in peers {
+        if peer.end.runs_out() {
+            return true;
+        }
+    }
+    false
+}
+
+// Counts the timers of each of these sessions down by one second.
+fn count_down_each(peers: &mut [Peer])
+    ensures { Become counted_down peers.old peers.new }
+{
+    for peer in peers.iter_mut() {
+        peer.end.count_down();
+    }
+}
+
+// Counts the timers of all sessions down by one second.
+fn count_down_all(peers: &mut Vec<Peer>)
+    ensures { Become counted_down peers.old.items peers.new.items }
+{
+    count_down_each(peers.as_mut_slice());
+}
+
+impl Router<'_> {
+    // Carries out the draft of the side at a place, for which there is room. The stamp stays.
+    fn move_side(&mut self, whole: ToAll, at: usize, made: &SideDraft)
+        requires below { at < length self.old.peers }
+        requires ready { (d : peer.Peer)
+            → IsReady self.old.own_open (draft_by whole self.old.own_open) (get_or self.old.peers at d) made.now }
+        requires fits { (d : peer.Peer)
+            → (draft_by whole self.old.own_open (side (get_or self.old.peers at d).end)).overflows ≡ false }
+        ensures { MovesSide self.old at (draft_by whole self.old.own_open) self.new }
+    {
+        sessions_keep_fresh();
+        let alloc = *self.peers.allocator();
+        let peer = self.peers[at].number;
+        let end = &mut self.peers[at].end;
+        carry(alloc, end, &mut self.tables, peer, &self.own_open, made);
+        close(&mut self.marks, peer, made.left);
+    }
+
+    // Carries out the drafts of all sides, peers rising.
+    fn move_all(&mut self, whole: ToAll, made: &[SideDraft])
+        requires ready { AreReady self.old.own_open (draft_by whole self.old.own_open) self.old.peers made.now }
+        requires fits { overflow_in (draft_by whole self.old.own_open) self.old.peers ≡ false }
+        ensures { MovesAll self.old (draft_by whole self.old.own_open) self.new }
+    {
+        for at in 0..made.len() {
+            self.move_side(whole, at, &made[at]);
+        }
+    }
+
+    /// Lets a second pass: at most one timer of each session runs out, peers rising (RFC 4271 section 8).
+    ///
+    /// Refused with [`RouterError::StampEnd`], with [`RouterError::EpochEnd`], and with [`RouterError::Memory`] if a
+    /// growth is refused; then all is as it was.
+    pub fn tick(&mut self) -> Result<Stepped, RouterError>
+        ensures answers { Answers result self.old Tick self.new }
+        ensures same { IsSame self.old self.new }
+    {
+        self.tick_with_room(Ok(()))
+    }
+
+    // Does what `tick` does; if the caller has no room for the event, no step is done.
+    pub(super) fn tick_with_room(
+        &mut self,
+        room: Result<(), AllocError>,
+    ) -> Result<Stepped, RouterError>
+        ensures answers { Answers result self.old Tick self.new }
+        ensures full { NeedsRoom result room }
+        ensures same { IsSame self.old self.new }
+    {
+        if runs_out(self.peers.as_slice()) {
+            self.tick_by_drafts(room)
+        } else {
+            self.count_down(room)
+        }
+    }
+
+    // Lets a second pass in which no timer runs out. It says, dials and leaves nothing: it needs no draft and no memory
+    // of its own, and moves the timers alone.
+    fn count_down(&mut self, room: Result<(), AllocError>) -> Result<Stepped, RouterError>
+        requires { runs_out_in self.old.peers ≡ false }
+        ensures answers { Answers result self.old Tick self.new }
+        ensures full { NeedsRoom result room }
+        ensures same { IsSame self.old self.new }
+    {
+        let stamp = next_stamp_with_room(self.stamp, room)?;
+        count_down_all(&mut self.peers);
+        self.stamp = stamp;
+        Ok(Stepped::Did)
+    }
+
+    // Lets any second pass: all sides are drafted, given room, and moved.
+    #[inline(never)]
+    fn tick_by_drafts(&mut self, room: Result<(), AllocError>) -> Result<Stepped, RouterError>
+        ensures answers { Answers result self.old Tick self.new }
+        ensures full { NeedsRoom result room }
+        ensures same { IsSame self.old self.new }
+    {
+        let stamp = next_stamp(self.stamp)?;
+        if overflows(ToAll::Second, self.peers.as_slice(), &self.own_open) {
+            return Err(RouterError::EpochEnd);
+        }
+        room?;
+        let alloc = *self.peers.allocator();
+        let Ok(made) = prepare(alloc, ToAll::Second, &mut self.peers, &self.own_open) else {
+            return Err(RouterError::Memory);
+        };
+        self.move_all(ToAll::Second, made.as_slice());
+        self.stamp = stamp;
+        Ok(Stepped::Did)
+    }
+
+    // Stops every session, rising; then forgets what is kept and originated.
+    pub(super) fn restart(&mut self, room: Result<(), AllocError>) -> Result<Stepped, RouterError>
+        ensures answers { Answers result self.old (Obey Restart) self.new }
+        ensures full { NeedsRoom result room }
+        ensures same { IsSame self.old self.new }
+    {
+        let stamp = next_stamp_with_room(self.stamp, room)?;
+        let alloc = *self.peers.allocator();
+        let Ok(made) = prepare(alloc, ToAll::Stop, &mut self.peers, &self.own_open) else {
+            return Err(RouterError::Memory);
+        };
+        self.move_all(ToAll::Stop, made.as_slice());
+        self.tables.clear();
+        self.stamp = stamp;
+        Ok(Stepped::Did)
+    }
+}
