@@ -9,7 +9,7 @@ const REACH: u32 = 8;
 
 /// How many rules a router has, and how many paths each of them at most.
 #[derive(Clone, Copy)]
-pub struct Rules {
+pub struct RuleCounts {
     pub routers: u32,
     pub prefixes: u32,
     pub rules: u32,
@@ -168,7 +168,7 @@ fn push_head(text: &mut String, word: &str, owner: u32, prefix: u32) -> Result<(
 }
 
 /// A network with rules, and the assignment in which each router has its best path.
-pub fn assigned(alloc: Global, dice: &mut Dice, rules: &Rules) -> Result<String, AllocError> {
+pub fn assigned(alloc: Global, dice: &mut Dice, rules: &RuleCounts) -> Result<String, AllocError> {
     let first = dice.below(60_000).wrapping_add(1);
     let ring = Ring::new(alloc, rules.routers, first)?;
     let mut text = String::new(alloc);

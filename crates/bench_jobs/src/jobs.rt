@@ -1,6 +1,6 @@
 //! The jobs, and the inputs of each.
 
-use crate::assignments::{Rules, assigned};
+use crate::assignments::{RuleCounts, assigned};
 use crate::dice::Dice;
 use crate::digest::Digest;
 use crate::plays::{Plan, Shape, failures, quiet_seconds, seconds, silences, snapshots};
@@ -41,7 +41,7 @@ pub static JOBS: [(&str, Job); 6] = [
 
 /// A job, with the seed of its inputs and how large they are.
 #[derive(Clone, Copy)]
-pub struct Asked {
+pub struct AskedJob {
     pub job: Job,
     pub seed: u32,
     pub size: u32,
@@ -239,13 +239,13 @@ fn add_texts<R>(
 where
     R: Threads + Wait + Sync,
 {
-    let wide = Rules {
+    let wide = RuleCounts {
         routers: 64,
         prefixes: prefixes(size, 16),
         rules: times(size, 4).min(64),
         paths: 8,
     };
-    let deep = Rules {
+    let deep = RuleCounts {
         routers: 64,
         prefixes: prefixes(size, 4),
         rules: size.min(64),
@@ -262,7 +262,7 @@ where
 }
 
 /// The digest of what the program writes for the inputs of a job.
-pub fn digest_of<R>(rt: &R, alloc: Global, asked: &Asked) -> Result<u64, AllocError>
+pub fn digest_of<R>(rt: &R, alloc: Global, asked: &AskedJob) -> Result<u64, AllocError>
 where
     R: Threads + Wait + Sync,
 {

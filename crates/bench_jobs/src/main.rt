@@ -14,7 +14,7 @@ mod plays;
 mod policies;
 mod streams;
 
-use jobs::{Asked, JOBS, Job, digest_of};
+use jobs::{AskedJob, JOBS, Job, digest_of};
 use std::alloc::AllocError;
 use std::process::ExitCode;
 use std::sync::Wait;
@@ -33,7 +33,7 @@ fn do_job<R>(rt: &R, name: &str, job: Job, seed: u32, size: u32) -> io::Result<E
 where
     R: AllocGlobal + Print + Threads + Wait + Sync,
 {
-    let asked = Asked { job, seed, size };
+    let asked = AskedJob { job, seed, size };
     match digest_of(rt, rt.alloc(), &asked) {
         Ok(digest) => {
             println!(rt; "{name} {digest:016x}")?;
