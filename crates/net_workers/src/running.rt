@@ -3,7 +3,6 @@
 ghost use Rattle.std.specs.Prelude.{◌≡◌, ◌<◌, ℕ, [], length, map, true, All, IfOk, IfNone, IfSome, slice_index_or};
 ghost use Rattle.std.specs.List.{AllByRecursion};
 ghost use Rattle.ranked_policy.specs.Plans.{IsNetwork, IsRouter, numbers};
-ghost use Rattle.router_model.specs.Settings.{peers};
 ghost use Rattle.worker_loop.specs.Whole.{IsLaterWorker};
 ghost use Rattle.net_workers.specs.Lanes.{AreNew, wires_of};
 ghost use Rattle.net_workers.specs.Dealt.{AreDealt};
@@ -13,7 +12,6 @@ use crate::board_seat::{Board, BoardSeat};
 use crate::dealing::deal;
 use crate::worker_pipes::WorkerPipes;
 use ranked_policy::{Asn, Network};
-use router_core::is_peer;
 use std::alloc::{AllocError, Global};
 use std::sync::Wait;
 use std::thread;
@@ -28,19 +26,6 @@ pub struct Finished<'a, G> {
     pub worker: Worker<'a, WorkerPipes, BoardSeat, G>,
     /// Its fault.
     pub fault: Option<WorkerFault>,
-}
-
-// The peers of a router, rising.
-fn peers_of(alloc: Global, network: &Network, number: Asn) -> Result<Vec<Asn>, AllocError>
-    ensures { IfOk result (λ made. made.items ≡ peers network.now number) }
-{
-    let mut made = Vec::new(alloc);
-    for router in network.routers() {
-        if is_peer(network, number, router.asn) {
-            made.push(router.asn)?;
-        }
-    }
-    Ok(made)
 }
 
 // A worker that did nothing yet.
@@ -60,7 +45,7 @@ fn new_worker<'a, G: Gate + Drop>(
     ensures gate { IfOk result (λ ended. ended.worker.gate ≡ gate) }
 {
     let router = new_router(alloc, network, number)?;
-    let peers = peers_of(alloc, network, number)?;
+    let peers = network.peers(alloc, number)?.into_vec();
     let worker = Worker {
         router,
         peers,

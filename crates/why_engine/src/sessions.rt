@@ -1,35 +1,17 @@
 //! The sessions of a router.
 
-ghost use Rattle.std.specs.Prelude.{◌≡◌, ◌++◌, true, is_some, slice_get, OnOk, IfOk};
+ghost use Rattle.std.specs.Prelude.{◌≡◌, ◌++◌, true, is_some, slice_get, OnOk};
 ghost use Rattle.bgp_framing.specs.Held.{is_waiting};
 ghost use Rattle.outbox.specs.Items.{octets_waiting};
 ghost use Rattle.ranked_policy.specs.Plans.{IsRouter};
-ghost use Rattle.router_model.specs.Settings.{linked, peers};
 ghost use Rattle.router_core.specs.Views.{sides_of};
 ghost use Rattle.why_engine.specs.Explaining.{ArePeers, IsPeer, is_coming, peer_line, peers_text, pipes_to};
 
 use crate::lines::put_peer_line;
-use ranked_policy::{Asn, Network};
-use router_core::{Router, is_peer};
+use ranked_policy::Asn;
+use router_core::Router;
 use std::alloc::{AllocError, Global};
 use world_core::World;
-
-/// The peers of a router, by rising number.
-pub(crate) fn peers_of(
-    alloc: Global,
-    network: &Network,
-    number: Asn,
-) -> Result<Vec<Asn>, AllocError>
-    ensures { IfOk result (λ all. all.items ≡ peers network.now number) }
-{
-    let mut all = Vec::new(alloc);
-    for other in network.routers() {
-        if is_peer(network, number, other.asn) {
-            all.push(other.asn)?;
-        }
-    }
-    Ok(all)
-}
 
 // Whether an item of a peer is in the pipe towards a router.
 fn is_in_pipe(world: &World<'_>, router: &Router<'_>, peer: Asn) -> bool

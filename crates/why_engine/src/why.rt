@@ -10,7 +10,7 @@ ghost use Rattle.router_model.specs.Settings.{peers};
 
 use crate::lines::put_router_line;
 use crate::prefixes::put_prefixes;
-use crate::sessions::{peers_of, put_peers};
+use crate::sessions::put_peers;
 use net_text::Code;
 use ranked_policy::{Asn, Network, Origin, PolicyTable};
 use router_core::Router;
@@ -62,7 +62,7 @@ fn router_output(
         (pipes_to world.now router.now.number) (peers router.now.net router.now.number)
         router.now.net.origins) DONE) }
 {
-    let peers = peers_of(alloc, network, router.number())?;
+    let peers = network.peers(alloc, router.number())?.into_vec();
     let mut out = Vec::new(alloc);
     put_router(
         alloc,

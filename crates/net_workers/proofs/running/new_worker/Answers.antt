@@ -6,7 +6,7 @@ pub returns-clause-fresh : goal.returns-clause-fresh
 returns-clause-fresh g c = record {
   net = c.in_ok-router.ensures.new.0;
   router = c.in_ok-router.ensures.new.1;
-  peers = c.in_ok-peers.ensures ∙ ap (peers c.args.network.now) (sym c.in_ok-router.ensures.number);
+  peers = c.into_vec-peers.ensures ∙ c.in_ok-peers.ensures.peers ∙ ap (peers c.args.network.now) (sym c.in_ok-router.ensures.number);
   pairs = c.requires.pairs;
   made = c.new.ensures.items;
   chores = c.new-2.ensures.chores;
