@@ -112,13 +112,13 @@ module _ {A : Type 0} where
   front_found x (Err f) ys e = absurd cc
 
   -- the value in front of octets, and those behind it
-  found : (r : Result (A × List ℕ) Fault) (more : List ℕ → Result (List A) Fault) (values : List A) → (r >>= λ v. in_front v.0 (more v.1)) ≡ Ok values
+  pub found : (r : Result (A × List ℕ) Fault) (more : List ℕ → Result (List A) Fault) (values : List A) → (r >>= λ v. in_front v.0 (more v.1)) ≡ Ok values
       → (v : A × List ℕ) × (vs : List A) × (r ≡ Ok v) × (more v.1 ≡ Ok vs) × (v.0 ∷ vs ≡ values)
   found (Ok v) more values e = let p = front_found v.0 (more v.1) values e in (v, p.0, refl, p.1, p.2)
   found (Err f) more values e = absurd cc
 
   -- no value where nothing was read
-  nothing_read : (values : List A) → (let r : Result (List A) Fault = Ok [] in r ≡ Ok values) → [] ≡ values
+  pub nothing_read : (values : List A) → (let r : Result (List A) Fault = Ok [] in r ≡ Ok values) → [] ≡ values
   nothing_read values e = cc
 
   -- what is read in turns enough is spelt so

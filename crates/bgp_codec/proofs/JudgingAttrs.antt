@@ -1,6 +1,7 @@
 -- What is remembered of attributes that are passed.
 use Rattle.std.proofs.Common.{◌≡◌, ℕ, zero, suc, ◌+◌, ◌*◌, ◌<◌, ◌≤◌, Bool, true, false, cond, List, [], ◌∷◌, ◌++◌, length, take, drop, get_or, set, Option, Some, None, Result, Ok, Err, refl, sym, ap, subst, ◌∙◌, arith, eq-eqb, ne_eqb, inl, inr}
-use Rattle.std.specs.Prelude.{slice_index, ◌==◌, ◌||◌, ◌≢◌, nat_lt, replicate, is_some, if◌then◌else◌}
+use Rattle.std.specs.Borrow.{Bor}
+use Rattle.std.specs.Prelude.{slice_index, ◌==◌, ◌||◌, ◌≢◌, nat_lt, replicate, is_some, IfSome, if◌then◌else◌}
 use Rattle.std.specs.List.{flat_map, list_any}
 use Rattle.std.proofs.lemmas.Bool.{cases_eq, cond_both}
 use Rattle.std.proofs.lemmas.List.{get_or-set_same, get_or-set_other, length-set, get_or-replicate}
@@ -104,40 +105,49 @@ is_first width (x ∷ xs) segments h e = sym (path_first width (x ∷ xs) segmen
 
 -- ---- the codes that are there
 
--- one attribute more: its code is there, and else what was; the path is its value, or what it was
+-- one attribute more: its code is there, and else what was; the path is its value, or what it was, and so is the next hop
 pub record Adds (width : Width) (code : ℕ) (value : List ℕ) (a b : Attrs) : Type 0 where
   pub same : has_code b code ≡ true
   pub others : (other : ℕ) → other ≢ code → has_code b other ≡ has_code a other
   pub path : code ≡ 2 → (segments : List Segment) × (path_reading width value ≡ Ok segments) × (b.path ≡ Some segments)
   pub kept : code ≢ 2 → b.path ≡ a.path
+  pub hop : code ≡ 3 → b.next_hop ≡ Some (address_at value 0)
+  pub hop_kept : code ≢ 3 → b.next_hop ≡ a.next_hop
 
 origin_adds : (width : Width) (a : Attrs) (value : List ℕ) (o : ℕ) → Adds width 1 value a (with_origin a o)
 origin_adds width a value o =
-    record { same = refl; others = λ k ne. let f : (k == 1) ≡ false = ne_eqb k 1 ne in rw f refl; path = λ e. absurd (omega arith); kept = λ ne. refl }
+    record { same = refl; others = λ k ne. let f : (k == 1) ≡ false = ne_eqb k 1 ne in rw f refl; path = λ e. absurd (omega arith); kept = λ ne. refl; hop = λ e. absurd (omega arith); hop_kept = λ ne. refl }
 
 path_adds : (width : Width) (a : Attrs) (value : List ℕ) (p : List Segment) → path_reading width value ≡ Ok p → Adds width 2 value a (with_path a p)
 path_adds width a value p read =
-    record { same = refl; others = λ k ne. let f : (k == 2) ≡ false = ne_eqb k 2 ne in rw f refl; path = λ e. (p, read, refl); kept = λ ne. absurd (ne refl) }
+    record { same = refl; others = λ k ne. let f : (k == 2) ≡ false = ne_eqb k 2 ne in rw f refl; path = λ e. (p, read, refl); kept = λ ne. absurd (ne refl); hop = λ e. absurd (omega arith); hop_kept = λ ne. refl }
 
-next_hop_adds : (width : Width) (a : Attrs) (value : List ℕ) (n : ℕ) → Adds width 3 value a (with_next_hop a n)
-next_hop_adds width a value n =
-    record { same = refl; others = λ k ne. let f : (k == 3) ≡ false = ne_eqb k 3 ne in rw f refl; path = λ e. absurd (omega arith); kept = λ ne. refl }
+next_hop_adds : (width : Width) (a : Attrs) (value : List ℕ) → Adds width 3 value a (with_next_hop a (address_at value 0))
+next_hop_adds width a value =
+    record {
+      same = refl;
+      others = λ k ne. let f : (k == 3) ≡ false = ne_eqb k 3 ne in rw f refl;
+      path = λ e. absurd (omega arith);
+      kept = λ ne. refl;
+      hop = λ e. refl;
+      hop_kept = λ ne. absurd (ne refl);
+    }
 
 med_adds : (width : Width) (a : Attrs) (value : List ℕ) (n : ℕ) → Adds width 4 value a (with_med a n)
 med_adds width a value n =
-    record { same = refl; others = λ k ne. let f : (k == 4) ≡ false = ne_eqb k 4 ne in rw f refl; path = λ e. absurd (omega arith); kept = λ ne. refl }
+    record { same = refl; others = λ k ne. let f : (k == 4) ≡ false = ne_eqb k 4 ne in rw f refl; path = λ e. absurd (omega arith); kept = λ ne. refl; hop = λ e. absurd (omega arith); hop_kept = λ ne. refl }
 
 local_pref_adds : (width : Width) (a : Attrs) (value : List ℕ) (n : ℕ) → Adds width 5 value a (with_local_pref a n)
 local_pref_adds width a value n =
-    record { same = refl; others = λ k ne. let f : (k == 5) ≡ false = ne_eqb k 5 ne in rw f refl; path = λ e. absurd (omega arith); kept = λ ne. refl }
+    record { same = refl; others = λ k ne. let f : (k == 5) ≡ false = ne_eqb k 5 ne in rw f refl; path = λ e. absurd (omega arith); kept = λ ne. refl; hop = λ e. absurd (omega arith); hop_kept = λ ne. refl }
 
 atomic_adds : (width : Width) (a : Attrs) (value : List ℕ) → Adds width 6 value a (with_atomic a)
 atomic_adds width a value =
-    record { same = refl; others = λ k ne. let f : (k == 6) ≡ false = ne_eqb k 6 ne in rw f refl; path = λ e. absurd (omega arith); kept = λ ne. refl }
+    record { same = refl; others = λ k ne. let f : (k == 6) ≡ false = ne_eqb k 6 ne in rw f refl; path = λ e. absurd (omega arith); kept = λ ne. refl; hop = λ e. absurd (omega arith); hop_kept = λ ne. refl }
 
 aggregator_adds : (width : Width) (a : Attrs) (value : List ℕ) (flags : ℕ) → Adds width 7 value a (with_aggregator a (aggregator_of width value flags))
 aggregator_adds width a value flags =
-    record { same = refl; others = λ k ne. let f : (k == 7) ≡ false = ne_eqb k 7 ne in rw f refl; path = λ e. absurd (omega arith); kept = λ ne. refl }
+    record { same = refl; others = λ k ne. let f : (k == 7) ≡ false = ne_eqb k 7 ne in rw f refl; path = λ e. absurd (omega arith); kept = λ ne. refl; hop = λ e. absurd (omega arith); hop_kept = λ ne. refl }
 
 -- a value of a known code that is taken
 value_adds : (width : Width) (code : ℕ) (a b : Attrs) (attr value : List ℕ) → is_known code ≡ true → value_by width code a attr value ≡ Ok b → Adds width code value a b
@@ -150,7 +160,7 @@ value_adds width (suc (suc zero)) a b attr value known e =
     subst (Adds width 2 value a) p.2 (path_adds width a value p.0 p.1)
 value_adds width (suc (suc (suc zero))) a b attr value known e =
     let h = hop_read a b (address_at value 0) (attr_fault 8 attr) _ e in
-    subst (Adds width 3 value a) h.1 (next_hop_adds width a value (address_at value 0))
+    subst (Adds width 3 value a) h.1 (next_hop_adds width a value)
 value_adds width (suc (suc (suc (suc zero)))) a b attr value known e = subst (Adds width 4 value a) (made_of _ b e) (med_adds width a value (address_at value 0))
 value_adds width (suc (suc (suc (suc (suc zero))))) a b attr value known e = subst (Adds width 5 value a) (made_of _ b e) (local_pref_adds width a value (address_at value 0))
 value_adds width (suc (suc (suc (suc (suc (suc zero)))))) a b attr value known e = subst (Adds width 6 value a) (made_of _ b e) (atomic_adds width a value)
@@ -195,6 +205,8 @@ raw_adds width a value r unknown =
           ap (known_first a k) (any_put (λ s. s.code == k) r a.other ∙ ap (λ (t : Bool). t || list_any (λ s. s.code == k) a.other) f);
       path = λ e. absurd (let both = sym unknown ∙ ap is_known e in cc);
       kept = λ ne. refl;
+      hop = λ e. absurd (let both = sym unknown ∙ ap is_known e in cc);
+      hop_kept = λ ne. refl;
     }
 
 -- an attribute that is taken
@@ -223,27 +235,53 @@ marked width codes a b code value small all marks adds k h =
     ]
 
 -- a path came
-pub path_remembered : (width : Width) (came : Came) (a b : Attrs) (first : Option ℕ) (attr value : List ℕ) → slice_index attr 1 < 256 → slice_index attr 1 ≡ 2
-    → ((segments : List Segment) → path_reading width value ≡ Ok segments → first ≡ first_number (path_numbers (Some segments)))
-    → Remembers came a → with_attr width a attr value ≡ Ok b → Remembers (record { codes = set came.codes (slice_index attr 1) true; first = first }) b
-path_remembered width came a b first attr value small two is r e =
+pub path_remembered : (width : Width) (came : Came) (a b : Attrs) (attr : List ℕ) (value : Bor (List ℕ)) → slice_index attr 1 < 256 → slice_index attr 1 ≡ 2
+    → Remembers width came a → with_attr width a attr value.now ≡ Ok b
+    → Remembers width (record { codes = set came.codes (slice_index attr 1) true; path = Some value; next_hop = came.next_hop }) b
+path_remembered width came a b attr value small two r e =
+    let adds = attr_adds width a b attr value.now e in
+    record {
+      marks = length-set came.codes (slice_index attr 1) true ∙ r.marks;
+      codes = marked width came.codes a b (slice_index attr 1) value.now small r.marks r.codes adds;
+      path = adds.path two;
+      no_path = λ none. absurd cc;
+      next_hop = r.next_hop ∙ sym (adds.hop_kept (λ three. omega (arith, two, three)));
+    }
+
+-- the path that was remembered, as another attribute leaves it
+path_kept : (width : Width) (path : Option (Bor (List ℕ))) (a b : Attrs) → b.path ≡ a.path → IfSome path (λ octets. (ss : List Segment) × (path_reading width octets.now ≡ Ok ss) × (a.path ≡ Some ss))
+    → IfSome path (λ octets. (ss : List Segment) × (path_reading width octets.now ≡ Ok ss) × (b.path ≡ Some ss))
+path_kept width None a b same has = tt
+path_kept width (Some octets) a b same has = (has.0, has.1, same ∙ has.2)
+
+-- a next hop came
+pub hop_remembered : (width : Width) (came : Came) (a b : Attrs) (attr value : List ℕ) → slice_index attr 1 < 256 → slice_index attr 1 ≡ 3
+    → Remembers width came a → with_attr width a attr value ≡ Ok b
+    → Remembers width (record { codes = set came.codes (slice_index attr 1) true; path = came.path; next_hop = Some (address_at value 0) }) b
+hop_remembered width came a b attr value small three r e =
     let adds = attr_adds width a b attr value e in
-    let p = adds.path two in
+    let same = adds.kept (λ two. omega (arith, two, three)) in
     record {
       marks = length-set came.codes (slice_index attr 1) true ∙ r.marks;
       codes = marked width came.codes a b (slice_index attr 1) value small r.marks r.codes adds;
-      first = is p.0 p.1 ∙ ap (λ (o : Option (List Segment)). first_number (path_numbers o)) (sym p.2);
+      path = path_kept width came.path a b same r.path;
+      no_path = λ none. same ∙ r.no_path none;
+      next_hop = sym (adds.hop three);
     }
 
 -- another attribute came
-pub other_remembered : (width : Width) (came : Came) (a b : Attrs) (attr value : List ℕ) → slice_index attr 1 < 256 → slice_index attr 1 ≢ 2
-    → Remembers came a → with_attr width a attr value ≡ Ok b → Remembers (record { codes = set came.codes (slice_index attr 1) true; first = came.first }) b
-other_remembered width came a b attr value small no_path r e =
+pub other_remembered : (width : Width) (came : Came) (a b : Attrs) (attr value : List ℕ) → slice_index attr 1 < 256 → slice_index attr 1 ≢ 2 → slice_index attr 1 ≢ 3
+    → Remembers width came a → with_attr width a attr value ≡ Ok b
+    → Remembers width (record { codes = set came.codes (slice_index attr 1) true; path = came.path; next_hop = came.next_hop }) b
+other_remembered width came a b attr value small no_path no_hop r e =
     let adds = attr_adds width a b attr value e in
+    let same = adds.kept no_path in
     record {
       marks = length-set came.codes (slice_index attr 1) true ∙ r.marks;
       codes = marked width came.codes a b (slice_index attr 1) value small r.marks r.codes adds;
-      first = r.first ∙ ap (λ (o : Option (List Segment)). first_number (path_numbers o)) (sym (adds.kept no_path));
+      path = path_kept width came.path a b same r.path;
+      no_path = λ none. same ∙ r.no_path none;
+      next_hop = r.next_hop ∙ sym (adds.hop_kept no_hop);
     }
 
 -- ---- where nothing came
@@ -257,5 +295,5 @@ pub none_there : (k : ℕ) → has_code no_attrs k ≡ false
 none_there k =
     pass_on (k == 1) _ (pass_on (k == 2) _ (pass_on (k == 3) _ (pass_on (k == 4) _ (pass_on (k == 5) _ (pass_on (k == 6) _ (pass_on (k == 7) false refl))))))
 
-pub nothing_remembered : Remembers (record { codes = replicate 256 false; first = None }) no_attrs
-nothing_remembered = record { marks = refl; codes = λ k h. get_or-replicate 256 k false false h ∙ sym (none_there k); first = refl }
+pub nothing_remembered : (width : Width) → Remembers width (record { codes = replicate 256 false; path = None; next_hop = None }) no_attrs
+nothing_remembered width = record { marks = refl; codes = λ k h. get_or-replicate 256 k false false h ∙ sym (none_there k); path = tt; no_path = λ none. refl; next_hop = refl }

@@ -6,7 +6,9 @@ use Rattle.bgp_codec.specs.declared.fault.Fault.{Fault}
 use Rattle.bgp_codec.specs.declared.fault.CodecError.{CodecError}
 use Rattle.bgp_codec.specs.declared.fault.CodecError.TheVariants as errors
 use Rattle.std.specs.Prelude.{slice_index, nat_lt, ◌==◌, not}
+use Rattle.bgp_codec.specs.declared.message.Message.{Message}
 use Rattle.bgp_codec.specs.declared.open.Cap.{Cap}
+use Rattle.bgp_codec.specs.Faults.{read_as}
 use Rattle.bgp_codec.specs.Opens.{value_at, cap_of, cap_at, caps_reading, param_at, open_fault, first_said, said_by}
 use Rattle.bgp_codec.specs.Reading.{◌>>=◌, Reader, all_of, Fails, Judged, IsNoWant}
 use Rattle.bgp_codec.specs.declared.attributes.Attrs.{Attrs}
@@ -45,6 +47,11 @@ same_fault Y Z errors.TooLong first j = j
 pub judged_then : {A B : Type 0} (e : CodecError) (r : Result A Fault) (f : A → Result B Fault) → Judged e r → Judged e (r >>= f)
 judged_then e (Ok x) f j = no_fault _ _ e x (f x) j
 judged_then e (Err first) f j = same_fault _ _ e first j
+
+-- and so is that of a message made of what is read
+pub judged_as : {A : Type 0} (make : A → Message) (e : CodecError) (r : Result A Fault) → Judged e r → Judged e (read_as make r)
+judged_as make e (Ok x) j = no_fault _ _ e x (Ok (make x)) j
+judged_as make e (Err first) j = same_fault _ _ e first j
 
 -- ---- a loop over what is left
 

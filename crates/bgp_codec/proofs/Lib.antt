@@ -22,6 +22,7 @@ pub mod WritingLemmas
 pub mod ReadingLemmas
 pub mod ReadWritable
 pub mod JudgingLemmas
+pub mod PartLemmas
 pub mod JudgingAttrs
 pub mod GatherLemmas
 pub mod OrderLemmas

@@ -1,13 +1,13 @@
-//! Searches a body for its first fault, after reading it met want of memory: a fault is answered
-//! before want of memory is. The search takes no memory for what it reads. It takes memory only for
-//! the data of a fault, if they are longer than sixteen octets.
+//! Searches a body for its first fault, and takes no memory for what it reads. It takes memory only
+//! for the data of a fault, if they are longer than sixteen octets. Where reading met want of memory,
+//! a fault is so answered before that. Of an UPDATE without a fault it answers the parts.
 
 ghost use Rattle.std.specs.Prelude.{◌≡◌, ◌≤◌, List, Some, Ok, false, length, slice_index};
 ghost use Rattle.bgp_codec.specs.Reading.{Judges, Passes};
-ghost use Rattle.bgp_codec.specs.Judging.{Remembers, first_number};
+ghost use Rattle.bgp_codec.specs.Judging.{Remembers, Shows, first_number};
 ghost use Rattle.bgp_codec.specs.Opens.{number_said, said_by, said_in, cap_at, caps_reading, param_at, params_reading, open_reading};
 ghost use Rattle.bgp_codec.specs.Updates.{path_numbers, missing, is_from};
-ghost use Rattle.bgp_codec.specs.UpdateReading.{prefixes_reading, path_reading, has_code, with_value, with_attr, no_attrs, attrs_reading, nlri_reading, parts_reading, update_reading};
+ghost use Rattle.bgp_codec.specs.UpdateReading.{prefixes_reading, path_reading, has_code, with_value, with_attr, attrs_reading, nlri_reading, parts_reading, update_reading};
 ghost use Rattle.bgp_codec.specs.declared.attributes.Attrs.{Attrs};
 ghost use Rattle.bgp_codec.specs.declared.path.Segment.{Segment};
 
@@ -17,6 +17,7 @@ use crate::fault::{CodecError, Fault, attr_fault, open_fault, update_fault};
 use crate::numbers::{address_at, asn_at, octet_at};
 use crate::octets::Octets;
 use crate::open::{number_fault, number_said, params_of, read_value};
+use crate::parts::{PathOctets, PrefixOctets, UpdateParts};
 use crate::path::segment_parts;
 use crate::prefixes::read_prefix;
 use crate::rule::{Asn, Rule};
@@ -98,15 +99,17 @@ pub(crate) fn judge_open(alloc: Global, body: &[u8], rule: &Rule) -> Result<(), 
 // ---- UPDATE
 
 // Passes the prefixes that octets consist of.
-fn judge_prefixes(alloc: Global, octets: &[u8]) -> Result<(), CodecError>
-    ensures { Passes result (prefixes_reading octets.now) }
+fn judge_prefixes(alloc: Global, octets: &[u8]) -> Result<PrefixOctets<'_>, CodecError>
+    ensures { Judges (λ prefixes read. prefixes ≡ read) result (prefixes_reading octets.now) }
 {
+    let mut count = 0usize;
     let mut left = octets;
     'prefixes: while !left.is_empty() {
         let (_, rest) = read_prefix(alloc, left)?;
+        count += 1;
         left = rest;
     }
-    Ok(())
+    Ok(PrefixOctets { count, octets })
 }
 
 // Passes the segments that a path consists of.
@@ -123,11 +126,13 @@ fn judge_path(alloc: Global, width: Width, octets: &[u8]) -> Result<(), CodecErr
 
 // What a pass over attributes remembers of those that came.
 #[derive(Drop)]
-struct Came {
+struct Came<'a> {
     // By code, whether an attribute of it came.
     codes: [bool; 256],
-    // The first number of the path, where a path with a number came.
-    first: Option<Asn>,
+    // The octets of the path, where one came.
+    path: Option<&'a [u8]>,
+    // The next hop, where one came.
+    next_hop: Option<u32>,
 }
 
 // The first number of the path of these octets, which are good. It stands behind the first two
@@ -182,27 +187,29 @@ fn judge_new(alloc: Global, width: Width, attr: &[u8], value: &[u8]) -> Result<(
 }
 
 // Remembers an attribute that was passed.
-fn remember(width: Width, came: &mut Came, attr: &[u8], value: &[u8])
-    ensures { (a b : Attrs) → Remembers came.old a → with_attr width a attr.now value.now ≡ Ok b
-        → Remembers came.new b }
+fn remember<'a>(width: Width, came: &mut Came<'a>, attr: &[u8], value: &'a [u8])
+    ensures { (a b : Attrs) → Remembers width came.old a → with_attr width a attr.now value.now ≡ Ok b
+        → Remembers width came.new b }
 {
     let code = octet_at(attr, 1);
     came.codes[code as usize] = true;
     if code == AS_PATH {
-        came.first = first_asn(width, value);
+        came.path = Some(value);
+    } else if code == NEXT_HOP {
+        came.next_hop = Some(address_at(value, 0));
     }
 }
 
 // Passes one more attribute: its code is no repeat, then the checks of the attribute alone.
-fn judge_attr(
+fn judge_attr<'a>(
     alloc: Global,
     width: Width,
-    came: &mut Came,
+    came: &mut Came<'a>,
     attr: &[u8],
-    value: &[u8],
+    value: &'a [u8],
 ) -> Result<(), CodecError>
-    ensures { (a : Attrs) → Remembers came.old a
-        → Judges (λ _ b. Remembers came.new b) result (with_attr width a attr.now value.now) }
+    ensures { (a : Attrs) → Remembers width came.old a
+        → Judges (λ _ b. Remembers width came.new b) result (with_attr width a attr.now value.now) }
 {
     if came.codes[octet_at(attr, 1) as usize] {
         return Err(update_fault(alloc, MALFORMED_ATTRIBUTE_LIST));
@@ -212,21 +219,16 @@ fn judge_attr(
     Ok(())
 }
 
-// What a pass remembers before any attribute came.
-fn nothing_came() -> Came
-    ensures { Remembers result no_attrs }
-{
-    Came {
-        codes: [false; 256],
-        first: None,
-    }
-}
-
 // Passes the attributes that octets consist of, and answers what is remembered of them.
-fn judge_attrs(alloc: Global, width: Width, octets: &[u8]) -> Result<Came, CodecError>
-    ensures { Judges (λ came a. Remembers came a) result (attrs_reading width octets.now) }
+#[inline(always)]
+fn judge_attrs(alloc: Global, width: Width, octets: &[u8]) -> Result<Came<'_>, CodecError>
+    ensures { Judges (λ came a. Remembers width came a) result (attrs_reading width octets.now) }
 {
-    let mut came = nothing_came();
+    let mut came = Came {
+        codes: [false; 256],
+        path: None,
+        next_hop: None,
+    };
     let mut left = octets;
     'attrs: while !left.is_empty() {
         let (attr, value, rest) = read_attr(alloc, left)?;
@@ -237,8 +239,8 @@ fn judge_attrs(alloc: Global, width: Width, octets: &[u8]) -> Result<Came, Codec
 }
 
 // The first of ORIGIN, AS_PATH and NEXT_HOP that did not come.
-fn missing(came: &Came) -> Option<u8>
-    ensures { (a : Attrs) → Remembers came.now a → result ≡ missing a }
+fn missing(width: Width, came: &Came<'_>) -> Option<u8>
+    ensures { (a : Attrs) → Remembers width came.now a → result ≡ missing a }
 {
     if !came.codes[ORIGIN as usize] {
         Some(ORIGIN)
@@ -252,63 +254,79 @@ fn missing(came: &Came) -> Option<u8>
 }
 
 // Whether the first number of the path is the peer's, if the rule names a peer.
-fn is_from(peer: Option<Asn>, came: &Came) -> bool
-    ensures { (a : Attrs) → Remembers came.now a → result ≡ is_from peer a }
+fn is_from(width: Width, peer: Option<Asn>, came: &Came<'_>) -> bool
+    ensures { (a : Attrs) → Remembers width came.now a → result ≡ is_from peer a }
 {
-    match (peer, came.first) {
+    match (peer, came.path) {
         (None, _) => true,
         (Some(_), None) => false,
-        (Some(asn), Some(first)) => first == asn,
+        (Some(asn), Some(path)) => first_asn(width, path) == Some(asn),
     }
 }
 
 // Passes the announced prefixes. The checks in order: the mandatory attributes came, the prefixes,
 // the peer.
-fn judge_nlri(
+fn judge_nlri<'a>(
     alloc: Global,
-    peer: Option<Asn>,
-    came: &Came,
-    octets: &[u8],
-) -> Result<(), CodecError>
-    ensures { (a : Attrs) → Remembers came.now a → Passes result (nlri_reading peer a octets.now) }
+    rule: &Rule,
+    came: &Came<'_>,
+    octets: &'a [u8],
+) -> Result<PrefixOctets<'a>, CodecError>
+    ensures { (a : Attrs) → Remembers rule.now.width came.now a
+        → Judges (λ prefixes read. prefixes ≡ read) result (nlri_reading rule.now.peer a octets.now) }
 {
     if octets.is_empty() {
-        return Ok(());
+        return judge_prefixes(alloc, octets);
     }
-    if let Some(code) = missing(came) {
+    if let Some(code) = missing(rule.width, came) {
         return Err(CodecError::Fault(Fault {
             code: UPDATE_MESSAGE_ERROR,
             sub: MISSING_WELL_KNOWN_ATTRIBUTE,
             extra: Octets::short(alloc, &[code]),
         }));
     }
-    judge_prefixes(alloc, octets)?;
-    if !is_from(peer, came) {
+    let nlri = judge_prefixes(alloc, octets)?;
+    if !is_from(rule.width, rule.peer, came) {
         return Err(update_fault(alloc, MALFORMED_AS_PATH));
     }
-    Ok(())
+    Ok(nlri)
 }
 
 // Passes the three parts, one after the other.
-fn judge_parts(
+fn judge_parts<'a>(
     alloc: Global,
     rule: &Rule,
-    withdrawn: &[u8],
-    attrs: &[u8],
-    nlri: &[u8],
-) -> Result<(), CodecError>
-    ensures { Passes result (parts_reading rule.now withdrawn.now attrs.now nlri.now) }
+    withdrawn: &'a [u8],
+    attrs: &'a [u8],
+    nlri: &'a [u8],
+) -> Result<UpdateParts<'a>, CodecError>
+    ensures { Judges Shows result (parts_reading rule.now withdrawn.now attrs.now nlri.now) }
 {
-    judge_prefixes(alloc, withdrawn)?;
-    let came = judge_attrs(alloc, rule.width, attrs)?;
-    judge_nlri(alloc, rule.peer, &came, nlri)
+    let width = rule.width;
+    let withdrawn = judge_prefixes(alloc, withdrawn)?;
+    let came = judge_attrs(alloc, width, attrs)?;
+    let nlri = judge_nlri(alloc, rule, &came, nlri)?;
+    let path = match came.path {
+        Some(octets) => Some(PathOctets { width, octets }),
+        None => None,
+    };
+    Ok(UpdateParts {
+        withdrawn,
+        path,
+        next_hop: came.next_hop,
+        nlri,
+    })
 }
 
-// Passes the body of an UPDATE, and answers its first fault. It answers want of memory only if the
-// data of that fault are longer than sixteen octets and memory for them was refused.
-pub(crate) fn judge_update(alloc: Global, body: &[u8], rule: &Rule) -> Result<(), CodecError>
+// Passes the body of an UPDATE, and answers its parts, or its first fault. It answers want of memory
+// only if the data of that fault are longer than sixteen octets and memory for them was refused.
+pub(crate) fn judge_update<'a>(
+    alloc: Global,
+    body: &'a [u8],
+    rule: &Rule,
+) -> Result<UpdateParts<'a>, CodecError>
     requires { 4 ≤ length body.now }
-    ensures { Passes result (update_reading rule.now body.now) }
+    ensures { Judges Shows result (update_reading rule.now body.now) }
 {
     let (withdrawn, attrs, nlri) = parts_of(alloc, body)?;
     judge_parts(alloc, rule, withdrawn, attrs, nlri)

@@ -2,7 +2,8 @@
 //!
 //! Its contract: [`decode`] answers a message only where its octets are a spelling of it
 //! (section 4), and a fault exactly where the octets have one: the first failing check in the
-//! order of checking (section 6). [`encode`] appends the one spelling that is written. What is
+//! order of checking (section 6). [`update_parts`] reads an UPDATE as [`decode`] does, and answers its parts where its
+//! octets have them. [`encode`] appends the one spelling that is written. What is
 //! written is read again as the same message.
 //!
 //! The definitions stand in `specs/`: `Header` (the header and its checks), `Spelling` (how each
@@ -11,7 +12,7 @@
 //! written), `AttrTable` (the attributes that are known), `UpdateReading` (what reading an UPDATE
 //! answers), `Gathering` (attributes as they come, before they are put in order), `Reading` (what a
 //! reader answers), `Faults` (the first fault of a frame), `Judging` (what a search for that fault
-//! remembers, if a growth was refused). The laws that tie them together are the public functions of
+//! remembers, and what it answers where there is none), `Parts` (the parts of an UPDATE where its octets have them). The laws that tie them together are the public functions of
 //! [`laws`].
 //!
 //! Numbers of autonomous systems have two octets in messages, or four (RFC 6793): a [`Rule`] says
@@ -36,6 +37,7 @@ mod numbers;
 mod octets;
 mod open;
 mod ordering;
+mod parts;
 mod path;
 mod prefixes;
 mod reading;
@@ -53,9 +55,10 @@ pub use notice::{Notice, notice_of};
 pub use numbers::asn_size;
 pub use octets::Octets;
 pub use open::{Cap, Open};
+pub use parts::{NumberOctets, PathOctets, PrefixOctets, UpdateParts};
 pub use path::{Numbers, Segment, SegmentKind, put_numbers, read_numbers};
 pub use prefixes::octet_count;
-pub use reading::decode;
+pub use reading::{decode, update_parts};
 pub use rule::{Asn, NOBODY, Rule};
 pub use update::Update;
 pub use writing::{encode, put_message, written_len};

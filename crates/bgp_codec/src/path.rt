@@ -1,10 +1,11 @@
 //! AS_PATH (RFC 4271 sections 4.3 and 5.1.2): its segments, their reader and their writer.
 
-ghost use Rattle.std.specs.Prelude.{ℕ, ◌≡◌, ◌+◌, ◌*◌, ◌-◌, ◌^◌, ◌≤◌, ◌<◌, ◌++◌, ◌↔◌, IsTrue, IsOk, IfOk, IfErr, length, min, vec_len, vec_capacity};
+ghost use Rattle.std.specs.Prelude.{ℕ, ◌≡◌, ◌+◌, ◌*◌, ◌-◌, ◌^◌, ◌≤◌, ◌<◌, ◌++◌, ◌↔◌, IsTrue, None, Ok, Err, IsOk, IfSome, IfOk, IfErr, length, min, vec_len, vec_capacity};
 ghost use Rattle.std.specs.List.{flat_map, AllByRecursion};
 ghost use Rattle.bgp_codec.specs.Reading.{Gives, IsNoWant};
 ghost use Rattle.bgp_codec.specs.Updates.{segment_code, path_octets, SegmentFits, begins_with};
-ghost use Rattle.bgp_codec.specs.UpdateReading.{segment_at, segment_with, path_reading};
+ghost use Rattle.bgp_codec.specs.UpdateReading.{update_fault, segment_at, segment_with, path_reading};
+ghost use Rattle.bgp_values.specs.declared.faults.TheConstants.{MALFORMED_AS_PATH};
 ghost use Rattle.bgp_codec.specs.AsNumbers.{asn_size, asn_octets, AsnFits, AreNumbers, numbers_of};
 ghost use Rattle.bgp_values.specs.declared.width.Width.TheVariants.{Two, Four};
 
@@ -120,6 +121,30 @@ pub fn read_numbers(alloc: Global, width: Width, octets: &[u8]) -> Result<Number
     }
 }
 
+// The kind of the segment in front, the octets of its numbers, and what follows it, if it is good.
+pub(crate) fn first_segment(width: Width, octets: &[u8]) -> Option<(SegmentKind, &[u8], &[u8])>
+    ensures some { IfSome result
+        (λ first. segment_at width octets.now ≡ Ok (segment_with width first.0 first.1.now, first.2.now)) }
+    ensures none { result ≡ None → segment_at width octets.now ≡ Err (update_fault MALFORMED_AS_PATH) }
+{
+    match octets {
+        [] | [_] => None,
+        [code, count, rest @ ..] => {
+            let (code, size) = (*code, asn_size(width) * *count as usize);
+            if !(code == AS_SET || code == AS_SEQUENCE) || *count == 0 || rest.len() < size {
+                return None;
+            }
+            let (numbers, rest) = rest.split_at(size);
+            let kind = if code == AS_SET {
+                SegmentKind::AsSet
+            } else {
+                SegmentKind::AsSequence
+            };
+            Some((kind, numbers, rest))
+        }
+    }
+}
+
 // The kind of the segment in front, the octets of its numbers, and what follows it. It takes no
 // memory.
 pub(crate) fn segment_parts(
@@ -131,21 +156,9 @@ pub(crate) fn segment_parts(
         (segment_at width octets.now) }
     ensures memory { IfErr result IsNoWant }
 {
-    match octets {
-        [] | [_] => Err(update_fault(alloc, MALFORMED_AS_PATH)),
-        [code, count, rest @ ..] => {
-            let (code, size) = (*code, asn_size(width) * *count as usize);
-            if !(code == AS_SET || code == AS_SEQUENCE) || *count == 0 || rest.len() < size {
-                return Err(update_fault(alloc, MALFORMED_AS_PATH));
-            }
-            let (numbers, rest) = rest.split_at(size);
-            let kind = if code == AS_SET {
-                SegmentKind::AsSet
-            } else {
-                SegmentKind::AsSequence
-            };
-            Ok((kind, numbers, rest))
-        }
+    match first_segment(width, octets) {
+        Some(first) => Ok(first),
+        None => Err(update_fault(alloc, MALFORMED_AS_PATH)),
     }
 }
 

@@ -1,11 +1,12 @@
 //! The prefixes of an UPDATE (RFC 4271 section 4.3): their reader and their writer.
 
-ghost use Rattle.std.specs.Prelude.{◌≡◌, ◌+◌, ◌-◌, ◌^◌, ◌≤◌, ◌++◌, IfErr, length, min, vec_len, vec_capacity};
+ghost use Rattle.std.specs.Prelude.{◌≡◌, ◌+◌, ◌-◌, ◌^◌, ◌≤◌, ◌++◌, None, Ok, Err, IfSome, IfErr, length, min, vec_len, vec_capacity};
 ghost use Rattle.std.specs.List.{flat_map, AllByRecursion};
 ghost use Rattle.prefix_lanes.specs.Bits.{IsCanonical};
 ghost use Rattle.bgp_codec.specs.Reading.{Gives, IsNoWant};
 ghost use Rattle.bgp_codec.specs.Updates.{octet_count, prefix_octets};
-ghost use Rattle.bgp_codec.specs.UpdateReading.{prefix_at, prefixes_reading};
+ghost use Rattle.bgp_codec.specs.UpdateReading.{update_fault, prefix_at, prefixes_reading};
+ghost use Rattle.bgp_values.specs.declared.faults.TheConstants.{INVALID_NETWORK_FIELD};
 ghost use Rattle.bgp_codec.specs.AsNumbers.{address_at};
 
 use crate::fault::{CodecError, update_fault};
@@ -37,22 +38,33 @@ fn leading_address(octets: &[u8]) -> u32
     }
 }
 
+// The prefix in front, and what follows it, if it has at most 32 bits and their octets are there.
+pub(crate) fn first_prefix(octets: &[u8]) -> Option<(Prefix, &[u8])>
+    ensures some { IfSome result (λ first. prefix_at octets.now ≡ Ok (first.0, first.1.now)) }
+    ensures none { result ≡ None → prefix_at octets.now ≡ Err (update_fault INVALID_NETWORK_FIELD) }
+{
+    match octets {
+        [] => None,
+        [len, rest @ ..] => {
+            let (len, count) = (*len, octet_count(*len));
+            if len > 32 || rest.len() < count {
+                return None;
+            }
+            let (body, rest) = rest.split_at(count);
+            let prefix = Prefix::new(leading_address(body), len).unwrap();
+            Some((prefix, rest))
+        }
+    }
+}
+
 // The prefix in front, and what follows it. It takes no memory.
 pub(crate) fn read_prefix(alloc: Global, octets: &[u8]) -> Result<(Prefix, &[u8]), CodecError>
     ensures gives { Gives (λ read. (read.0, read.1.now)) result (prefix_at octets.now) }
     ensures memory { IfErr result IsNoWant }
 {
-    match octets {
-        [] => Err(update_fault(alloc, INVALID_NETWORK_FIELD)),
-        [len, rest @ ..] => {
-            let (len, count) = (*len, octet_count(*len));
-            if len > 32 || rest.len() < count {
-                return Err(update_fault(alloc, INVALID_NETWORK_FIELD));
-            }
-            let (body, rest) = rest.split_at(count);
-            let prefix = Prefix::new(leading_address(body), len).unwrap();
-            Ok((prefix, rest))
-        }
+    match first_prefix(octets) {
+        Some(first) => Ok(first),
+        None => Err(update_fault(alloc, INVALID_NETWORK_FIELD)),
     }
 }
 

@@ -1,10 +1,11 @@
 //! From octets to messages.
 
 ghost use Rattle.std.specs.Prelude.{◌≡◌, ◌+◌, ◌⊎◌, ◌≤◌, ◌<◌, length, IsOk, IfOk, IfErr, IfSome, Err};
-ghost use Rattle.bgp_values.specs.declared.messages.TheConstants.{KEEPALIVE, NOTIFICATION, LEAST_NOTIFICATION};
+ghost use Rattle.bgp_values.specs.declared.messages.TheConstants.{KEEPALIVE, NOTIFICATION, UPDATE, LEAST_NOTIFICATION};
 ghost use Rattle.bgp_codec.specs.declared.message.Message.TheVariants.{OpenMsg, UpdateMsg};
 ghost use Rattle.bgp_codec.specs.Header.{IsFrame, kind_field};
-ghost use Rattle.bgp_codec.specs.Reading.{Decodes, Gives};
+ghost use Rattle.bgp_codec.specs.Reading.{Decodes, Gives, Judges};
+ghost use Rattle.bgp_codec.specs.Judging.{ShowsUpdate};
 ghost use Rattle.bgp_codec.specs.Spelling.{Spells};
 ghost use Rattle.bgp_codec.specs.Opens.{open_reading};
 ghost use Rattle.bgp_codec.specs.UpdateReading.{update_reading};
@@ -15,6 +16,7 @@ use crate::fault_search::{judge_open, judge_update};
 use crate::message::Message;
 use crate::notice::read_notice;
 use crate::open::read_open;
+use crate::parts::UpdateParts;
 use crate::rule::Rule;
 use crate::update::read_update;
 use bgp_values::{HEADER_LEN, NOTIFICATION, OPEN, UPDATE};
@@ -71,6 +73,24 @@ fn decode_by_type(alloc: Global, frame: &[u8], rule: &Rule) -> Result<Message, C
         NOTIFICATION => read_notice(alloc, body),
         _ => Ok(Message::AliveMsg),
     }
+}
+
+/// The parts of the UPDATE that a frame spells, or its first fault, as [`decode`] reads them.
+///
+/// It takes no memory but for a fault's own data of more than sixteen octets: [`CodecError::Memory`] stands in the place
+/// of that fault alone.
+pub fn update_parts<'a>(
+    alloc: Global,
+    frame: &'a [u8],
+    rule: &Rule,
+) -> Result<UpdateParts<'a>, CodecError>
+    requires frame { IsFrame frame.now }
+    requires kind { kind_field frame.now ≡ UPDATE }
+    ensures parts { Judges ShowsUpdate result (reading rule.now frame.now) }
+    ensures refused { IfErr result (RefusesAs rule.now frame.now) }
+{
+    let (_, body) = frame.split_at(HEADER_LEN);
+    judge_update(alloc, body, rule)
 }
 
 /// The message that a frame spells, or its first fault. A frame is the octets of one message: its header is good, and

@@ -1,10 +1,12 @@
 -- Octets as text, one after the other.
-use Rattle.std.proofs.Common.{◌≡◌, ℕ, ◌-◌, drop, ◌≤◌, List, [], ◌∷◌, ◌++◌, length, get_or, take, sym, ap, ◌∙◌, append_assoc, arith}
+use Rattle.std.proofs.Common.{◌≡◌, ℕ, ◌-◌, drop, ◌≤◌, List, [], ◌∷◌, ◌++◌, length, get_or, take, Option, Some, refl, sym, ap, ◌∙◌, append_assoc, arith}
 use Rattle.std.proofs.lemmas.List.{append-nil, take_all}
 use Rattle.std.specs.Prelude.{cond, is_ok, OnOk, Result, Ok, Err}
 use Rattle.std.specs.declared.alloc.AllocError.{AllocError}
 use Rattle.std.specs.List.{flat_map, join_with_byte}
 use Rattle.std.specs.Prelude.{map}
+use Rattle.bgp_codec.specs.declared.path.Segment.{Segment}
+use Rattle.net_text.specs.Printing.{segment_text, segments_text, path_text}
 
 -- seven texts one after the other, the last of which may be refused
 pub seven_texts : (r : Result (Unit {0}) AllocError) (old a b c d e f g p q s t u v w : List ℕ) → a ≡ old ++ p → b ≡ a ++ q → c ≡ b ++ s → d ≡ c ++ t → e ≡ d ++ u → f ≡ e ++ v
@@ -37,3 +39,14 @@ joined_rest f mark (y ∷ ys) x d old new l is e =
     let count : length (y ∷ ys) - 1 ≡ length ys = omega arith in
     let all : take (length ys) ys ≡ ys = take_all (length ys) ys (omega arith) in
     rw (count, all, joined_first f mark y ys, e, is) (simp append_assoc)
+
+-- the same of texts at a place: the first was written, and the others are left
+pub joined_front : {X : Type 0} (f : X → List ℕ) (mark : ℕ) (all : List X) (x : X) (left : List X) (old new : List ℕ) → all ≡ x ∷ left → new ≡ old ++ f x
+    → new ++ flat_map (λ y. mark ∷ f y) left ≡ old ++ join_with_byte mark (map f all)
+joined_front f mark all x left old new is e = rw (is, joined_first f mark x left, e) (simp append_assoc)
+
+-- of a path whose first segment was written
+pub path_front : (path : Option (List Segment)) (all : List Segment) (s : Segment) (left : List Segment) (old new : List ℕ) → path ≡ Some all → all ≡ s ∷ left → new ≡ old ++ segment_text s
+    → new ++ flat_map (λ t. 45 ∷ segment_text t) left ≡ old ++ path_text path
+unfolding segments_text
+path_front path all s left old new some is e = rw (some, is) (joined_front segment_text 45 (s ∷ left) s left old new refl e)

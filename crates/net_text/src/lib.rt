@@ -7,7 +7,8 @@
 //! the line that is one bare word. A text is refused for its first faulty line, by a [`Code`].
 //!
 //! [`message_line`] appends the line of a message, [`flight_line`] that of an UPDATE in flight, [`fault_lines`] those
-//! of a fault, [`truncated_line`] that of a rest; [`notice_line`] that of a NOTIFICATION by its parts.
+//! of a fault, [`truncated_line`] that of a rest; [`notice_line`] that of a NOTIFICATION by its parts,
+//! [`parts_line`] that of an UPDATE by the octets of its parts.
 //! [`refused_line`], [`unstable_line`] and [`stable_line`] append the lines of a check of an assignment.
 //! [`put_network`] appends the lines of a text as they were read, [`put_comments`] as comments. A refused call leaves
 //! the buffer's octets as they were.
@@ -44,6 +45,7 @@ mod sections;
 mod settings;
 mod tail;
 mod texts;
+mod update_lines;
 mod updates;
 mod whole_lines;
 pub mod words;
@@ -63,4 +65,5 @@ pub use prefix_texts::write_prefix;
 pub use sections::{Split, split_at_section};
 pub use tail::TextTail;
 pub use texts::{write_mark, write_text};
+pub use update_lines::parts_line;
 pub use whole_lines::{put_comments, put_network};

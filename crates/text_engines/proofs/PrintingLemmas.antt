@@ -4,13 +4,17 @@ use Rattle.std.specs.Prelude.{nat_lt, slice_index, is_err, IfOk}
 use Rattle.std.proofs.lemmas.Bool.{le-ltb, lt-ltb}
 use Rattle.std.proofs.lemmas.List.{take_all, drop_all, take-append-drop, length-append}
 use Rattle.hex.specs.Hex.{decode_of}
+use Rattle.bgp_codec.specs.declared.message.Message.{Message}
 use Rattle.bgp_codec.specs.declared.message.Message.TheVariants.{AliveMsg}
+use Rattle.bgp_codec.specs.declared.parts.UpdateParts.{UpdateParts}
+use Rattle.bgp_codec.specs.declared.update.Update.{Update}
+use Rattle.bgp_codec.specs.Judging.{Shows, ShowsUpdate}
 use Rattle.bgp_codec.specs.declared.fault.Fault.{Fault}
 use Rattle.bgp_codec.specs.declared.rule.Rule.{Rule}
 use Rattle.bgp_codec.specs.Header.{header_fault, kind_field, IsFrame}
 use Rattle.bgp_codec.specs.Faults.{reading}
 use Rattle.bgp_framing.specs.Frames.{Splits, SplitsOnce, SplitsBehindAFrame, SplitsIntoNothing, IsPartial}
-use Rattle.net_text.specs.Printing.{line, message_line, notice_line, noticed, fault_lines}
+use Rattle.net_text.specs.Printing.{line, message_line, update_line, notice_line, noticed, fault_lines}
 use Rattle.text_engines.specs.Decoding.{Output, output, behind, short_output, rest_output, read_output, frames_output, StreamGives, DigitsGive, Leads, PutsFrame, PutsShort}
 
 -- what is taken and what is left are all
@@ -115,6 +119,14 @@ pub notice_put : (rule : Rule) (frame body extra old new : List ℕ) (code sub :
     → new ≡ old ++ line (notice_line (noticed code sub extra)) → PutsFrame rule frame old new None
 unfolding reading message_line
 notice_put rule frame body extra old new code sub kind b c s e is = (line (notice_line (noticed code sub extra)), is, λ more. rw (e, s, c, b, kind) refl)
+
+-- the parts are those of the UPDATE that the frame reads as
+pub update_put : (rule : Rule) (frame old new : List ℕ) (parts : UpdateParts) → (message : Message) × (reading rule frame ≡ Ok message) × ShowsUpdate parts message
+    → ((u : Update) → Shows parts u → new ≡ old ++ line (update_line u)) → PutsFrame rule frame old new None
+unfolding message_line
+update_put rule frame old new parts read put =
+    let u = read.2.0 in
+    (line (update_line u), put u read.2.2, λ more. rw (read.1, read.2.1) refl)
 
 -- ---- a stream in hex
 

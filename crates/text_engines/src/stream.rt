@@ -1,18 +1,18 @@
 //! What is printed for a stream of messages.
 
 ghost use Rattle.std.specs.Prelude.{◌≡◌, ◌≤◌, ◌++◌, ℕ, List, None, drop, length, take, IfOk};
-ghost use Rattle.bgp_values.specs.declared.messages.TheConstants.{KEEPALIVE};
+ghost use Rattle.bgp_values.specs.declared.messages.TheConstants.{KEEPALIVE, UPDATE};
 ghost use Rattle.bgp_codec.specs.Header.{IsFrame, kind_field};
 ghost use Rattle.bgp_framing.specs.Frames.{IsPartial};
 ghost use Rattle.text_engines.specs.Decoding.{output, StreamGives, Leads, PutsFrame, PutsShort};
 
 use crate::status::{DONE, REFUSED};
 use bgp_codec::laws::{fault_fits_a_message, header_fault_is_short};
-use bgp_codec::{CodecError, Message, Rule, decode};
+use bgp_codec::{CodecError, Message, Rule, decode, update_parts};
 use bgp_framing::laws::{splits_behind_a_frame, splits_into_nothing, splits_once};
 use bgp_framing::{Next, next_message};
-use bgp_values::{HEADER_LEN, KEEPALIVE, NOTIFICATION};
-use net_text::{fault_lines, message_line, notice_line, truncated_line};
+use bgp_values::{HEADER_LEN, KEEPALIVE, NOTIFICATION, UPDATE};
+use net_text::{fault_lines, message_line, notice_line, parts_line, truncated_line};
 use std::alloc::{AllocError, Global};
 
 // Appends what is printed for a frame that is decoded, and answers the status where nothing follows it. A message is
@@ -41,6 +41,31 @@ fn put_decoded(
     }
 }
 
+// Appends what is printed for an UPDATE, from its octets, and answers the status where nothing follows it.
+fn put_update(
+    alloc: Global,
+    rule: &Rule,
+    frame: &[u8],
+    out: &mut Vec<u8>,
+) -> Result<Option<u8>, AllocError>
+    requires frame { IsFrame frame.now }
+    requires kind { kind_field frame.now ≡ UPDATE }
+    ensures { IfOk result (PutsFrame rule.now frame.now out.old.items out.new.items) }
+{
+    fault_fits_a_message();
+    match update_parts(alloc, frame, rule) {
+        Ok(parts) => {
+            parts_line(parts, out)?;
+            Ok(None)
+        }
+        Err(CodecError::Fault(fault)) => {
+            fault_lines(&fault, out)?;
+            Ok(Some(REFUSED))
+        }
+        Err(CodecError::TooLong | CodecError::Memory) => Err(AllocError),
+    }
+}
+
 // Appends what is printed for a frame, and answers the status where nothing follows it. A KEEPALIVE says nothing, and a
 // NOTIFICATION has no check of its own: its parts stand behind the header.
 #[inline(always)]
@@ -57,6 +82,7 @@ fn put_frame(
     match (frame[18], body) {
         (KEEPALIVE, _) => message_line(&Message::AliveMsg, out)?,
         (NOTIFICATION, [code, sub, extra @ ..]) => notice_line(*code, *sub, extra, out)?,
+        (UPDATE, _) => return put_update(alloc, rule, frame, out),
         _ => return put_decoded(alloc, rule, frame, out),
     }
     Ok(None)

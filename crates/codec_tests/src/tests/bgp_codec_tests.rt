@@ -10,6 +10,7 @@ use std::test::Fail;
 mod headers;
 mod judging;
 mod opens;
+mod parts;
 mod updates;
 mod wide;
 

@@ -1,10 +1,14 @@
-use Rattle.std.proofs.Common.{arith}
+use Rattle.std.proofs.Common.{refl, arith}
 use Rattle.std.proofs.lemmas.Result.{err_from_is_err_and}
-use Rattle.bgp_codec.specs.UpdateReading.{attrs_reading}
+use Rattle.bgp_codec.specs.UpdateReading.{no_attrs, attrs_reading}
 use Rattle.bgp_codec.proofs.EachLemmas.{some_left, none_left}
 use Rattle.bgp_codec.proofs.AttrSteps.{attrs_go_on, attrs_end, attr_shorter}
+use Rattle.bgp_codec.proofs.JudgingAttrs.{nothing_remembered}
 use Rattle.bgp_codec.proofs.JudgingLemmas.{judged_from, attrs_judged, attr_judged}
 use Rattle.bgp_codec.proofs.fault_search.judge_attrs.Goals as goal
+
+pub attrs-init : goal.attrs-init
+attrs-init c = (no_attrs, refl, nothing_remembered c.args.width)
 
 pub returns-in_err-attr : goal.returns-in_err-attr
 returns-in_err-attr c =

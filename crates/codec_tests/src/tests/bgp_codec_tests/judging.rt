@@ -2,8 +2,9 @@
 //! their own, so `rt try --test --fail-alloc N` refuses the reader's.
 
 use super::is_fault;
-use bgp_codec::{Asn, CodecError, Message, NOBODY, Rule, decode};
+use bgp_codec::{Asn, CodecError, NOBODY, Rule, decode, update_parts};
 use bgp_framing::{Next, next_message};
+use bgp_values::UPDATE;
 use std::alloc::Global;
 
 // A fault: its code, its subcode and its data.
@@ -33,8 +34,8 @@ pub(super) fn framed(kind: u8, body: &[u8]) -> [u8; 64] {
     octets
 }
 
-// Whether the answer is this fault, or a message where none is named.
-fn is_as_wanted(answer: &Result<Message, CodecError>, wanted: Option<FirstFault>) -> bool {
+// Whether the answer is this fault, or none where none is named.
+fn is_as_wanted<T>(answer: &Result<T, CodecError>, wanted: Option<FirstFault>) -> bool {
     match (answer, wanted) {
         (Ok(_), None) => true,
         (Err(CodecError::Fault(fault)), Some((code, sub, extra))) => {
@@ -44,7 +45,8 @@ fn is_as_wanted(answer: &Result<Message, CodecError>, wanted: Option<FirstFault>
     }
 }
 
-// Whether a frame stands in front of the octets, for which that is answered.
+// Whether a frame stands in front of the octets, for which that is answered; of an UPDATE, also where its parts are asked
+// for.
 pub(super) fn answers(
     alloc: Global,
     octets: &[u8],
@@ -55,6 +57,7 @@ pub(super) fn answers(
         Next::Whole(_, end) => {
             let (frame, _) = octets.split_at(end);
             is_as_wanted(&decode(alloc, frame, rule), wanted)
+                && (frame[18] != UPDATE || is_as_wanted(&update_parts(alloc, frame, rule), wanted))
         }
         Next::More | Next::Bad(_) => false,
     }
