@@ -154,28 +154,15 @@ fn set_to(setting: Setting, number: u64, settings: Settings) -> Settings
     ensures value { result ≡ set_to setting number settings }
     ensures range { IsSettings settings → IsSettings result }
 {
+    let mut settings = settings;
     match setting {
-        Setting::Hold => Settings {
-            hold: number as u16,
-            ..settings
-        },
-        Setting::Restart => Settings {
-            restart: number as u16,
-            ..settings
-        },
-        Setting::Cut => Settings {
-            cut: number as usize,
-            ..settings
-        },
-        Setting::Pipe => Settings {
-            pipe: number as usize,
-            ..settings
-        },
-        Setting::Octets => Settings {
-            width: Width::Four,
-            ..settings
-        },
+        Setting::Hold => settings.hold = number as u16,
+        Setting::Restart => settings.restart = number as u16,
+        Setting::Cut => settings.cut = number as usize,
+        Setting::Pipe => settings.pipe = number as usize,
+        Setting::Octets => settings.width = Width::Four,
     }
+    settings
 }
 
 // The settings as a line leaves them.
