@@ -60,11 +60,11 @@ fn announced_words(alloc: Global, update: &Update) -> Result<Vec<Word>, RibError
 }
 
 // Puts the word of a peer for the prefix at a place.
-fn hear_at(rows: &mut [Row], place: usize, peer: usize, word: Word)
-    requires within { place < length rows.old }
-    requires words { (r : Row) → slice_get rows.old place ≡ Some r → peer < length r.heard }
-    ensures { (r : Row) → slice_get rows.old place ≡ Some r
-        → rows.new ≡ slice_set rows.old place (hearing peer word r) }
+fn hear_at(rows: &mut Vec<Row>, place: usize, peer: usize, word: Word)
+    requires within { place < length rows.old.items }
+    requires words { (r : Row) → slice_get rows.old.items place ≡ Some r → peer < length r.heard }
+    ensures { (r : Row) → slice_get rows.old.items place ≡ Some r
+        → rows.new.items ≡ slice_set rows.old.items place (hearing peer word r) }
 {
     let row = &mut rows[place];
     row.heard.set(peer, word);
@@ -88,15 +88,15 @@ fn mark_heard(router: Asn, row: &Row, peer: usize, word: &Word, place: usize, di
 pub(crate) fn hear_one(
     router: Asn,
     keys: &IndexSet<Prefix>,
-    rows: &mut [Row],
+    rows: &mut Vec<Row>,
     dirty: &mut PlaceSet,
     peer: usize,
     prefix: &Prefix,
     word: Word,
 )
-    requires { (peers : ℕ) × AreFit keys.now.keys peers rows.old × (peer < peers) }
-    ensures rows { rows.new ≡ map (on prefix.now (hearing peer word)) rows.old }
-    ensures dirty { StaysDecided router rows.old rows.new dirty.old dirty.new }
+    requires { (peers : ℕ) × AreFit keys.now.keys peers rows.old.items × (peer < peers) }
+    ensures rows { rows.new.items ≡ map (on prefix.now (hearing peer word)) rows.old.items }
+    ensures dirty { StaysDecided router rows.old.items rows.new.items dirty.old dirty.new }
 {
     if let Some(place) = place_of(keys, prefix) {
         mark_heard(router, &rows[place], peer, &word, place, dirty);
@@ -104,21 +104,21 @@ pub(crate) fn hear_one(
     }
 }
 
-// Takes a peer's withdrawal of these prefixes: the empty path for each that the network names.
+// Takes what an UPDATE of a peer withdraws: the empty path for each prefix that the network names.
 pub(crate) fn hear_withdrawn(
     alloc: Global,
     router: Asn,
     keys: &IndexSet<Prefix>,
-    rows: &mut [Row],
+    rows: &mut Vec<Row>,
     dirty: &mut PlaceSet,
     peer: usize,
-    prefixes: &[Prefix],
+    update: &Update,
 )
-    requires { (peers : ℕ) × AreFit keys.now.keys peers rows.old × (peer < peers) }
-    ensures rows { rows.new ≡ map (hearing_all prefixes.now peer nothing) rows.old }
-    ensures dirty { StaysDecided router rows.old rows.new dirty.old dirty.new }
+    requires { (peers : ℕ) × AreFit keys.now.keys peers rows.old.items × (peer < peers) }
+    ensures rows { rows.new.items ≡ map (hearing_all update.now.withdrawn peer nothing) rows.old.items }
+    ensures dirty { StaysDecided router rows.old.items rows.new.items dirty.old dirty.new }
 {
-    for prefix in prefixes {
+    for prefix in update.withdrawn.as_slice() {
         let word = Word::Sequence(Path::new(alloc));
         hear_one(router, keys, rows, dirty, peer, prefix, word);
     }
@@ -128,84 +128,23 @@ pub(crate) fn hear_withdrawn(
 pub(crate) fn hear_announced(
     router: Asn,
     keys: &IndexSet<Prefix>,
-    rows: &mut [Row],
+    rows: &mut Vec<Row>,
     dirty: &mut PlaceSet,
     peer: usize,
     update: &Update,
     words: Vec<Word>,
 )
-    requires fit { (peers : ℕ) × AreFit keys.now.keys peers rows.old × (peer < peers) }
+    requires fit { (peers : ℕ) × AreFit keys.now.keys peers rows.old.items × (peer < peers) }
     requires len { length words.items ≡ length update.now.nlri }
     requires same { All (λ one. one ≡ announced_word update.now.attrs) words.items }
-    ensures rows { rows.new ≡ map (hearing_all update.now.nlri peer (announced_word update.now.attrs)) rows.old }
-    ensures dirty { StaysDecided router rows.old rows.new dirty.old dirty.new }
+    ensures rows { rows.new.items ≡ map (hearing_all update.now.nlri peer (announced_word update.now.attrs)) rows.old.items }
+    ensures dirty { StaysDecided router rows.old.items rows.new.items dirty.old dirty.new }
 {
     let mut words = words;
     for prefix in update.nlri.as_slice() {
         let word = words.pop().unwrap();
         hear_one(router, keys, rows, dirty, peer, prefix, word);
     }
-}
-
-// Takes an UPDATE of a peer that announces one prefix, with the word for it. It takes no memory.
-fn hear_single(
-    alloc: Global,
-    router: Asn,
-    keys: &IndexSet<Prefix>,
-    rows: &mut Vec<Row>,
-    dirty: &mut PlaceSet,
-    peer: usize,
-    update: &Update,
-    prefix: &Prefix,
-    word: Word,
-)
-    requires fit { (peers : ℕ) × AreFit keys.now.keys peers rows.old.items × (peer < peers) }
-    requires only { update.now.nlri ≡ prefix.now ∷ [] }
-    requires same { word ≡ announced_word update.now.attrs }
-    ensures rows { rows.new.items ≡ map (hearing_update peer update.now) rows.old.items }
-    ensures dirty { StaysDecided router rows.old.items rows.new.items dirty.old dirty.new }
-{
-    let rows = rows.as_mut_slice();
-    hear_withdrawn(
-        alloc,
-        router,
-        keys,
-        rows,
-        dirty,
-        peer,
-        update.withdrawn.as_slice(),
-    );
-    hear_one(router, keys, rows, dirty, peer, prefix, word);
-}
-
-// Takes an UPDATE of a peer, with the words that it announces. It takes no memory.
-fn hear_several(
-    alloc: Global,
-    router: Asn,
-    keys: &IndexSet<Prefix>,
-    rows: &mut Vec<Row>,
-    dirty: &mut PlaceSet,
-    peer: usize,
-    update: &Update,
-    words: Vec<Word>,
-)
-    requires fit { (peers : ℕ) × AreFit keys.now.keys peers rows.old.items × (peer < peers) }
-    requires len { length words.items ≡ length update.now.nlri }
-    requires same { All (λ one. one ≡ announced_word update.now.attrs) words.items }
-    ensures rows { rows.new.items ≡ map (hearing_update peer update.now) rows.old.items }
-    ensures dirty { StaysDecided router rows.old.items rows.new.items dirty.old dirty.new }
-{
-    let rows = rows.as_mut_slice();
-    hear_withdrawn(
-        alloc,
-        router,
-        keys,
-        rows,
-        dirty,
-        peer,
-        update.withdrawn.as_slice(),
-    );
-    hear_announced(router, keys, rows, dirty, peer, update, words);
 }
 
 // Takes an UPDATE of a peer. A refusal leaves all as it was.
@@ -226,10 +165,12 @@ pub(crate) fn hear_update(
 {
     if let [prefix] = update.nlri.as_slice() {
         let word = announced(alloc, &update.attrs)?;
-        hear_single(alloc, router, keys, rows, dirty, peer, update, prefix, word);
+        hear_withdrawn(alloc, router, keys, rows, dirty, peer, update);
+        hear_one(router, keys, rows, dirty, peer, prefix, word);
     } else {
         let words = announced_words(alloc, update)?;
-        hear_several(alloc, router, keys, rows, dirty, peer, update, words);
+        hear_withdrawn(alloc, router, keys, rows, dirty, peer, update);
+        hear_announced(router, keys, rows, dirty, peer, update, words);
     }
     Ok(())
 }
@@ -254,7 +195,7 @@ pub(crate) fn hear_path(
     ensures same_dirty { OnErr result (dirty.new ≡ dirty.old) }
 {
     let word = Word::Sequence(Path::from_slice(alloc, path)?);
-    hear_one(router, keys, rows.as_mut_slice(), dirty, peer, prefix, word);
+    hear_one(router, keys, rows, dirty, peer, prefix, word);
     Ok(())
 }
 
@@ -393,10 +334,10 @@ pub(crate) fn originate_at(rows: &mut Vec<Row>, place: usize, now: bool)
 }
 
 // Keeps no path for any prefix, and originates none. It takes no memory.
-fn clear_rows(alloc: Global, rows: &mut [Row], dirty: &mut PlaceSet)
-    requires { length rows.old ≤ MOST_PREFIXES }
-    ensures rows { rows.new ≡ map clearing rows.old }
-    ensures dirty { (i : ℕ) → i < length rows.old → has dirty.new i ≡ true }
+pub(crate) fn clear_all(alloc: Global, rows: &mut Vec<Row>, dirty: &mut PlaceSet)
+    requires { length rows.old.items ≤ MOST_PREFIXES }
+    ensures rows { rows.new.items ≡ map clearing rows.old.items }
+    ensures dirty { (i : ℕ) → i < length rows.old.items → has dirty.new i ≡ true }
 {
     for place in 0..rows.len() {
         let row = &mut rows[place];
@@ -404,15 +345,6 @@ fn clear_rows(alloc: Global, rows: &mut [Row], dirty: &mut PlaceSet)
         row.originated = false;
         dirty.put(place);
     }
-}
-
-// Does what `clear_rows` does, for a `Vec`.
-pub(crate) fn clear_all(alloc: Global, rows: &mut Vec<Row>, dirty: &mut PlaceSet)
-    requires { length rows.old.items ≤ MOST_PREFIXES }
-    ensures rows { rows.new.items ≡ map clearing rows.old.items }
-    ensures dirty { (i : ℕ) → i < length rows.old.items → has dirty.new i ≡ true }
-{
-    clear_rows(alloc, rows.as_mut_slice(), dirty);
 }
 
 // The places that a peer waits for. It takes no memory.

@@ -4,12 +4,12 @@ use Rattle.std.specs.List.{slice_get}
 use Rattle.rib_tables.specs.declared.row.Row.{Row}
 use Rattle.rib_tables.specs.Places.{has}
 use Rattle.rib_tables.specs.Rows.{clearing}
-use Rattle.rib_tables.proofs.changes.clear_rows.Given as goal
+use Rattle.rib_tables.proofs.changes.clear_all.Given as goal
 
 abbrev pub invariant-loop-place : goal.invariant-loop-place
 invariant-loop-place l = record {
-  len : length l.rows ≡ length l.fn.rows;
-  passed : (i : ℕ) (r : Row) → i < l.place → slice_get l.fn.rows i ≡ Some r → slice_get l.rows i ≡ Some (clearing r);
-  ahead : (i : ℕ) → l.place ≤ i → slice_get l.rows i ≡ slice_get l.fn.rows i;
+  len : length l.rows.items ≡ length l.fn.rows.items;
+  passed : (i : ℕ) (r : Row) → i < l.place → slice_get l.fn.rows.items i ≡ Some r → slice_get l.rows.items i ≡ Some (clearing r);
+  ahead : (i : ℕ) → l.place ≤ i → slice_get l.rows.items i ≡ slice_get l.fn.rows.items i;
   dirty : (i : ℕ) → i < l.place → has l.dirty i ≡ true;
 }
