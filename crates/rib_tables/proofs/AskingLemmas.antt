@@ -1,9 +1,9 @@
 -- What is asked of the owner: what a peer waits for, what is to be decided, whether anything is left.
-use Rattle.std.proofs.Common.{◌≡◌, ◌≢◌, ℕ, ◌<◌, true, false, List, length, get_or, sym, subst, arith, Some, None, Option}
-use Rattle.std.specs.Prelude.{MatchOption}
+use Rattle.std.proofs.Common.{◌≡◌, ◌≢◌, ℕ, ◌<◌, Bool, true, false, List, length, get_or, refl, sym, ap, subst, ◌∙◌, arith, inl, inr, Some, None, Option}
+use Rattle.std.specs.Prelude.{MatchOption, if◌then◌else◌}
 use Rattle.std.specs.Option.{is_some}
 use Rattle.std.specs.List.{slice_get}
-use Rattle.std.proofs.lemmas.Bool.{false≢true}
+use Rattle.std.proofs.lemmas.Bool.{cases_Bool, false≢true}
 use Rattle.std.proofs.lemmas.Option.{slice_get_within, slice_get-get_or}
 use Rattle.prefix_lanes.specs.Bits.{PrefixView}
 use Rattle.ranked_policy.specs.declared.network.Origin.{Origin}
@@ -16,7 +16,8 @@ use Rattle.rib_tables.specs.Places.{has}
 use Rattle.rib_tables.specs.Words.{nothing}
 use Rattle.rib_tables.specs.Least.{HoldsOfAll, IsLeastWithout}
 use Rattle.rib_tables.specs.Owners.{RibView, IsSettled, IsServed, HasWaitingPeer, AllServed}
-use Rattle.rib_tables.specs.Rows.{IsRib, AreDecided, AreJudged, AllBest, IsFirstUndecided, view_of}
+use Rattle.rib_tables.specs.Tables.{Words}
+use Rattle.rib_tables.specs.Rows.{IsRow, IsRib, said_in, AreDecided, AreJudged, AllBest, IsFirstUndecided, view_of}
 use Rattle.rib_tables.proofs.RibLemmas.{row_named}
 use Rattle.rib_tables.proofs.SessionLemmas.{listed_up}
 use Rattle.rib_tables.proofs.SeenLemmas.{all_rows, least_row, settled_seen, served_here, waits_here}
@@ -74,6 +75,24 @@ module _ (net : Plan) (router : ℕ) (peers : List Peer) (keys : List PrefixView
       let here : slice_get waits x.0 ≡ Some w = slice_get-get_or waits x.0 dirty (omega (arith, lt, size)) in
       let served : IsServed view v q = subst (λ (n : ℕ). IsServed view n q) x.4 (waits_for_none x.0 x.1 w x.2 here (none x.0 w here) q name) in
       served up
+
+-- the words sent of a row, or those heard
+abbrev pub line_of : Bool → Row → List Word
+line_of sent r = if sent then r.sent else r.heard
+
+lines_of : (sent : Bool) (peers : List Peer) (rows : List Row) → said_in (line_of sent) peers rows ≡ (if sent then said_in (λ r. r.sent) peers rows else said_in (λ r. r.heard) peers rows)
+lines_of true peers rows = refl
+lines_of false peers rows = refl
+
+module _ (net : Plan) (router : ℕ) (peers : List Peer) (rows : List Row) (sent : Bool) where
+  pub line_long : (r : Row) → IsRow net router peers r → length (line_of sent r) ≡ length peers
+  line_long r is = elim (cases_Bool sent) [
+    | inl t ↦ ap (λ (b : Bool). length (line_of b r)) t ∙ is.sent
+    | inr f ↦ ap (λ (b : Bool). length (line_of b r)) f ∙ is.heard
+  ]
+
+  pub words_seen : (view : RibView) → view_of net router peers rows ≡ view → (P : Words → Type 0) → P (said_in (line_of sent) peers rows) → P (if sent then view.sent else view.heard)
+  words_seen view same P p = subst (λ (s : RibView). P (if sent then s.sent else s.heard)) same (subst P (lines_of sent peers rows) p)
 
 -- a word of a line, as look-ups see it
 pub word_seen : {X : Type 0} (value : X → Word) (r : Option X) (line : List Word) (k : ℕ) (whole : Word) → ((w : Word) → slice_get line k ≡ Some w → whole ≡ w)

@@ -2,10 +2,9 @@
 use Rattle.std.proofs.Common.{◌≡◌, ◌≢◌, ℕ, ◌<◌, true, List, [], length, set, refl, sym, ap, subst, ◌∙◌, inl, inr, Some, None, Option, rules}
 use Rattle.std.specs.Prelude.{◌↔◌, MatchOption, Result, Ok, Err, IfErr, OnErr}
 use Rattle.std.specs.List.{slice_get}
-use Rattle.std.proofs.lemmas.Bool.{cases_Bool, false_from_ne_true}
-use Rattle.std.proofs.lemmas.List.{length-set}
+use Rattle.std.proofs.lemmas.Bool.{cases_Bool}
 use Rattle.std.proofs.lemmas.Option.{slice_get_within}
-use Rattle.prefix_lanes.specs.Bits.{PrefixView, is_prefix}
+use Rattle.prefix_lanes.specs.Bits.{PrefixView}
 use Rattle.ranked_policy.specs.Plans.{Plan}
 use Rattle.rib_tables.specs.declared.word.Word.TheVariants.{Sequence}
 use Rattle.rib_tables.specs.declared.place_set.PlaceSet.{PlaceSet}
@@ -14,14 +13,11 @@ use Rattle.rib_tables.specs.declared.row.Row.{Row}
 use Rattle.rib_tables.specs.Places.{has}
 use Rattle.rib_tables.specs.Owners.{Decides}
 use Rattle.rib_tables.specs.Rows.{AreDecided, AreJudged, AllBest, IsRowBest, IsRib, IsFirstUndecided, keeping, view_of}
-use Rattle.rib_tables.proofs.WordLemmas.{is_prefix-true}
-use Rattle.rib_tables.proofs.RowChoices.{some_of}
 use Rattle.rib_tables.proofs.ChangeLemmas.{key_at, place_fits}
 use Rattle.rib_tables.proofs.RibLemmas.{fit_of, set_here}
-use Rattle.rib_tables.proofs.SessionLemmas.{keep_keeps_rib}
 use Rattle.rib_tables.proofs.SeenLemmas.{best_seen}
 use Rattle.rib_tables.proofs.DecidingLemmas.{decided_more}
-use Rattle.rib_tables.proofs.OneRowLemmas.{elsewhere, rows_set, marks_place, keeps_view}
+use Rattle.rib_tables.proofs.OneRowLemmas.{keeps_rib, keeps_view}
 use Rattle.rib_tables.proofs.AskingLemmas.{judged, dirty_keeps_rib}
 
 -- a path along the way on of the best is the best
@@ -81,22 +77,13 @@ module _ (net : Plan) (router : ℕ) (peers : List Peer) (keys : List PrefixView
     pub new_row : slice_get new place ≡ Some (keeping path row)
     new_row = ap (λ (rs : List Row). slice_get rs place) is ∙ set_here rows place (keeping path row) (slice_get_within rows place row at)
 
-    pub new_long : length new ≡ length rows
-    new_long = ap (λ (rs : List Row). length rs) is ∙ length-set rows place (keeping path row)
-
     pub best_keeps_rib : (taken : PlaceSet) (told : List PlaceSet) → (IsRowBest net router peers row row.kept → ⊥) → ((j : ℕ) → j ≢ place → has taken j ≡ has dirty j) → length told ≡ length waits
         → ((k : ℕ) (p : Peer) (w : PlaceSet) → slice_get peers k ≡ Some p → slice_get told k ≡ Some w → (has w place ≡ true ↔ ((p.up ≡ true) × (slice_get row.sent k ≢ Some (Sequence path)))))
         → ((k : ℕ) (w : PlaceSet) → slice_get told k ≡ Some w → (v : PlaceSet) × (slice_get waits k ≡ Some v) × ((i : ℕ) → i ≢ place → has w i ≡ has v i))
         → IsRib net router peers keys new taken told
     best_keeps_rib taken told fails out long here others =
-        let kept = keep_keeps_rib net router peers keys rows new dirty dirty waits told row.prefix place path rib (rows_set net router peers keys rows rib.whole row.prefix place row at refl (keeping path) new is)
-        (marks_place net router peers keys rows rib.whole row.prefix place row at refl dirty dirty (is_in fails) (λ j apart. refl))
-        (λ j r there apart. false_from_ne_true (is_prefix row.prefix r.prefix) (λ t. elsewhere net router peers keys rows rib.whole row.prefix place row at refl j r there apart (sym (is_prefix-true row.prefix r.prefix t)))) long
-        (λ k p w r there_row there there_told. subst (λ (y : Row). has w place ≡ true ↔ ((p.up ≡ true) × (slice_get y.sent k ≢ Some (Sequence y.kept)))) (one r there_row) (here k p w there there_told)) others in
+        let kept = keeps_rib net router peers keys rows rib.whole row.prefix place row at refl path dirty dirty waits told rib new is (is_in fails) (λ j apart. refl) long here others in
         dirty_keeps_rib net router peers keys new dirty told kept taken (decided_more net router peers new dirty kept.decided place (keeping path row) taken new_row best out)
-      where
-        one : (r : Row) → slice_get new place ≡ Some r → keeping path row ≡ r
-        one r there = some_of (keeping path row) r (sym new_row ∙ there)
 
     pub best_view : Decides (view_of net router peers rows) (view_of net router peers new) row.prefix
     best_view = record {

@@ -16,7 +16,7 @@ use Rattle.rib_tables.specs.Choices.{IsFirstOrNone, IsBestOf}
 use Rattle.rib_tables.specs.Rows.{RowHears, IsRow, IsRowBest, AreDecided, AllBest, IsFirstUndecided}
 use Rattle.ranked_policy.proofs.OneTable.{one_table, table_stands}
 use Rattle.rib_tables.proofs.RouterLemmas.{best_once}
-use Rattle.rib_tables.proofs.RowChoices.{some_of}
+use Rattle.rib_tables.proofs.RowChoices.{some_of, same_or_apart}
 use Rattle.rib_tables.proofs.ChangeLemmas.{from_map}
 
 -- a router of a network has a table of policies
@@ -81,10 +81,9 @@ module _ (n first : ℕ) (old new : PlaceSet) (clear : (j : ℕ) → j < n → h
 module _ (net : Plan) (router : ℕ) (peers : List Peer) (rows : List Row) (dirty : PlaceSet) (decided : AreDecided net router peers rows dirty) where
   -- a place whose row has its best can be taken out
   pub decided_more : (place : ℕ) (r : Row) (new : PlaceSet) → slice_get rows place ≡ Some r → IsRowBest net router peers r r.kept → ((j : ℕ) → j ≢ place → has new j ≡ has dirty j) → AreDecided net router peers rows new
-  decided_more place r new at best others i s there out = elim (cases_order i place) [
+  decided_more place r new at best others i s there out = elim (same_or_apart i place) [
     | inl same ↦ subst (λ (x : Row). IsRowBest net router peers x x.kept) (some_of r s (sym at ∙ ap (λ (n : ℕ). slice_get rows n) (sym same) ∙ there)) best
-    | inr differ ↦
-        let apart : i ≢ place = λ e. elim differ [ inl l ↦ omega (arith, l, e) | inr m ↦ omega (arith, m, e) ] in
+    | inr apart ↦
         decided i s there (sym (others i apart) ∙ out)
   ]
 

@@ -2,7 +2,7 @@
 use Rattle.std.proofs.Common.{◌≡◌, ◌≢◌, ℕ, ◌<◌, Bool, true, false, List, length, set, map, refl, sym, ap, subst, ◌∙◌, arith, inl, inr, ◌⊎◌, Some, None, Option, rules}
 use Rattle.std.specs.Prelude.{◌↔◌, MatchOption, IsSome}
 use Rattle.std.specs.List.{slice_get, Contains}
-use Rattle.std.proofs.lemmas.Bool.{cases_Bool, cases_order, both_ways, cond-true, cond-false, false≢true, false_from_ne_true}
+use Rattle.std.proofs.lemmas.Bool.{cases_Bool, both_ways, cond-true, cond-false, false≢true, false_from_ne_true}
 use Rattle.std.proofs.lemmas.List.{length-set}
 use Rattle.std.proofs.lemmas.Option.{slice_get_within}
 use Rattle.prefix_lanes.specs.Bits.{PrefixView, is_prefix}
@@ -14,11 +14,11 @@ use Rattle.rib_tables.specs.declared.place_set.PlaceSet.{PlaceSet}
 use Rattle.rib_tables.specs.declared.row.Peer.{Peer}
 use Rattle.rib_tables.specs.declared.row.Row.{Row}
 use Rattle.rib_tables.specs.Places.{has}
-use Rattle.rib_tables.specs.Tables.{word_of, Keeps}
+use Rattle.rib_tables.specs.Tables.{Keeps}
 use Rattle.rib_tables.specs.Owners.{RibView, TellsKept, Originating, Withdrawing, KeepsPath, Clears}
 use Rattle.rib_tables.specs.Rows.{IsRow, AreRows, AreWaiting, IsRowBest, IsRib, Marks, on, telling, keeping, originating, clearing, said_in, established_in, originated_in, kept_in, view_of}
 use Rattle.rib_tables.proofs.WordLemmas.{is_prefix-true, is_prefix-from}
-use Rattle.rib_tables.proofs.RowChoices.{some_of}
+use Rattle.rib_tables.proofs.RowChoices.{some_of, same_or_apart}
 use Rattle.rib_tables.proofs.ChangeLemmas.{from_map, to_map, key_at, row_at, set_at_key, marks_one}
 use Rattle.rib_tables.proofs.RibLemmas.{set_here, set_there, rows_map, decided_map, row_or_not, new_word, same_word, said_map, originated_map, kept_map, fit_of, named_row}
 use Rattle.rib_tables.proofs.SeenLemmas.{once, no_kept, kept_at, originated_listed, listed_originated}
@@ -77,6 +77,13 @@ module _ (q : PrefixView) (g : Row → Row) where
     | inr f ↦ ap h (cond-false (is_prefix q r.prefix) (g r) r f)
   ]
 
+  -- what the change keeps of a row holds of each
+  pub on_keeps : (P : Row → Type 0) → ((r : Row) → P r → P (g r)) → (r : Row) → P r → P (on q g r)
+  on_keeps P keeps r h = elim (cases_Bool (is_prefix q r.prefix)) [
+    | inl t ↦ subst P (sym (cond-true (is_prefix q r.prefix) (g r) r t)) (keeps r h)
+    | inr f ↦ subst P (sym (cond-false (is_prefix q r.prefix) (g r) r f)) h
+  ]
+
   pub prefix_or_not : (r : Row) → (r.prefix ≡ q) ⊎ (r.prefix ≢ q)
   prefix_or_not r = elim (cases_Bool (is_prefix q r.prefix)) [ inl t ↦ inl (sym (is_prefix-true q r.prefix t)) | inr f ↦ inr (λ e. both_ways (is_prefix q r.prefix) f (is_prefix-from q r.prefix (sym e))) ]
 
@@ -102,10 +109,7 @@ module _ (net : Plan) (router : ℕ) (peers : List Peer) (keys : List PrefixView
   pub originate_keeps_rib : (new : List Row) → new ≡ set rows i (originating now row) → IsRib net router peers keys new marked waits
   originate_keeps_rib new e = subst (λ (rs : List Row). IsRib net router peers keys rs marked waits) (sym (originate_rows new e)) (record {
     whole = rows_map net router peers keys rows f f_prefix
-        (λ r h. elim (cases_Bool (is_prefix q r.prefix)) [
-          | inl t ↦ subst (IsRow net router peers) (sym (cond-true (is_prefix q r.prefix) (originating now r) r t)) (record { heard = h.heard; sent = h.sent; speaks = h.speaks; own = h.own })
-          | inr n ↦ subst (IsRow net router peers) (sym (cond-false (is_prefix q r.prefix) (originating now r) r n)) h
-        ]) rib.whole;
+        (on_keeps q (originating now) (IsRow net router peers) (λ r h. record { heard = h.heard; sent = h.sent; speaks = h.speaks; own = h.own })) rib.whole;
     decided = decided_map net router peers keys rows f f_prefix marked (λ j r there out.
         let m = marks j out in
         subst (λ (s : Row). IsRowBest net router peers s s.kept) (sym (cond-false (is_prefix q r.prefix) (originating now r) r (m.1 r there))) (rib.decided j r there m.0));
@@ -209,10 +213,7 @@ module _ (net : Plan) (router : ℕ) (peers : List Peer) (keys : List PrefixView
 
     kept_rows : AreRows net router peers keys (map kept rows)
     kept_rows = rows_map net router peers keys rows kept kept_prefix
-        (λ r h. elim (cases_Bool (is_prefix q r.prefix)) [
-          | inl t ↦ subst (IsRow net router peers) (sym (cond-true (is_prefix q r.prefix) (keeping path r) r t)) (record { heard = h.heard; sent = h.sent; speaks = h.speaks; own = h.own })
-          | inr n ↦ subst (IsRow net router peers) (sym (cond-false (is_prefix q r.prefix) (keeping path r) r n)) h
-        ]) whole
+        (on_keeps q (keeping path) (IsRow net router peers) (λ r h. record { heard = h.heard; sent = h.sent; speaks = h.speaks; own = h.own })) whole
 
     once_kept : (a b : ℕ) (c d : Row) → slice_get (map kept rows) a ≡ Some c → slice_get (map kept rows) b ≡ Some d → c.prefix ≡ d.prefix → a ≡ b
     once_kept = once net router peers keys (map kept rows) kept_rows
@@ -228,6 +229,33 @@ module _ (net : Plan) (router : ℕ) (peers : List Peer) (keys : List PrefixView
             ∙ sym (kept_at rows p x.0 x.1 (once net router peers keys rows whole) x.2 x.3)
       ];
     }
+
+    pub keeps_rib : (dirty marked : PlaceSet) (waits told : List PlaceSet) → IsRib net router peers keys rows dirty waits → (new : List Row) → new ≡ set rows i (keeping path row)
+        → has marked i ≡ true → ((j : ℕ) → j ≢ i → has marked j ≡ has dirty j) → length told ≡ length waits
+        → ((k : ℕ) (p : Peer) (w : PlaceSet) → slice_get peers k ≡ Some p → slice_get told k ≡ Some w → (has w i ≡ true ↔ ((p.up ≡ true) × (slice_get row.sent k ≢ Some (Sequence path)))))
+        → ((k : ℕ) (w : PlaceSet) → slice_get told k ≡ Some w → (v : PlaceSet) × (slice_get waits k ≡ Some v) × ((j : ℕ) → j ≢ i → has w j ≡ has v j)) → IsRib net router peers keys new marked told
+    keeps_rib dirty marked waits told rib new e in_it out long here others = subst (λ (rs : List Row). IsRib net router peers keys rs marked told) (sym (rows_set (keeping path) new e)) (record {
+      whole = kept_rows;
+      decided = decided_map net router peers keys rows kept kept_prefix marked (λ j r there clean.
+          let m = marks_place dirty marked in_it out j clean in
+          subst (λ (s : Row). IsRowBest net router peers s s.kept) (sym (cond-false (is_prefix q r.prefix) (keeping path r) r (m.1 r there))) (rib.decided j r there m.0));
+      told = record {
+        long = long ∙ rib.told.long;
+        each = λ k p w there told_at j r at_new.
+            let y = from_map kept rows j r at_new in
+            elim (same_or_apart j i) [
+              | inl same ↦
+                  let row_is : keeping path row ≡ r = sym (y.2 ∙ ap kept (some_of y.0 row (sym y.1 ∙ ap (λ (n : ℕ). slice_get rows n) same ∙ at)) ∙ on_here q (keeping path) row is) in
+                  subst (λ (n : ℕ). has w n ≡ true ↔ ((p.up ≡ true) × (slice_get r.sent k ≢ Some (Sequence r.kept)))) (sym same)
+                  (subst (λ (s : Row). has w i ≡ true ↔ ((p.up ≡ true) × (slice_get s.sent k ≢ Some (Sequence s.kept)))) row_is (here k p w there told_at))
+              | inr apart ↦
+                  let row_is : r ≡ y.0 = y.2 ∙ on_there q (keeping path) y.0 (elsewhere j y.0 y.1 apart) in
+                  let before = others k w told_at in
+                  subst (λ (b : Bool). b ≡ true ↔ ((p.up ≡ true) × (slice_get r.sent k ≢ Some (Sequence r.kept)))) (sym (before.2 j apart))
+                  (subst (λ (s : Row). has before.0 j ≡ true ↔ ((p.up ≡ true) × (slice_get s.sent k ≢ Some (Sequence s.kept)))) (sym row_is) (rib.told.each k p before.0 there before.1 j y.0 y.1))
+            ];
+      };
+    })
 
     pub keeps_view : (new : List Row) → new ≡ set rows i (keeping path row) → KeepsPath (view_of net router peers rows) (view_of net router peers new) q path
     keeps_view new e = subst (λ (rs : List Row). KeepsPath (view_of net router peers rows) (view_of net router peers rs) q path) (sym (rows_set (keeping path) new e)) (record {
@@ -262,16 +290,10 @@ module _ (net : Plan) (router : ℕ) (peers : List Peer) (keys : List PrefixView
         ap (λ (s : Row). slice_get s.sent to) (on_here q (telling to word) row is) ∙ set_here row.sent to word (omega (arith, lt, size))
 
     tells_row : (r : Row) → IsRow net router peers r → IsRow net router peers (told r)
-    tells_row r h = elim (cases_Bool (is_prefix q r.prefix)) [
-      | inl t ↦ subst (IsRow net router peers) (sym (cond-true (is_prefix q r.prefix) (telling to word r) r t)) (record { heard = h.heard; sent = length-set r.sent to word ∙ h.sent; speaks = h.speaks; own = h.own })
-      | inr n ↦ subst (IsRow net router peers) (sym (cond-false (is_prefix q r.prefix) (telling to word r) r n)) h
-    ]
+    tells_row = on_keeps q (telling to word) (IsRow net router peers) (λ r h. record { heard = h.heard; sent = length-set r.sent to word ∙ h.sent; speaks = h.speaks; own = h.own })
 
     tells_best : (r : Row) → IsRowBest net router peers r r.kept → IsRowBest net router peers (told r) (told r).kept
-    tells_best r b = elim (cases_Bool (is_prefix q r.prefix)) [
-      | inl t ↦ subst (λ (s : Row). IsRowBest net router peers s s.kept) (sym (cond-true (is_prefix q r.prefix) (telling to word r) r t)) b
-      | inr n ↦ subst (λ (s : Row). IsRowBest net router peers s s.kept) (sym (cond-false (is_prefix q r.prefix) (telling to word r) r n)) b
-    ]
+    tells_best = on_keeps q (telling to word) (λ r. IsRowBest net router peers r r.kept) (λ r b. b)
 
     pub tell_keeps_rib : (dirty : PlaceSet) (waits : List PlaceSet) → IsRib net router peers keys rows dirty waits → (new : List Row) → new ≡ set rows i (telling to word row) → (old out : PlaceSet) → slice_get waits to ≡ Some old
         → has out i ≡ false → ((j : ℕ) → j ≢ i → has out j ≡ has old j) → IsRib net router peers keys new dirty (set waits to out)
@@ -283,10 +305,10 @@ module _ (net : Plan) (router : ℕ) (peers : List Peer) (keys : List PrefixView
         each = λ k p w there here j r at_new.
             let y = from_map told rows j r at_new in
             let kept_as : r.kept ≡ y.0.kept = ap (λ (s : Row). s.kept) y.2 ∙ on_same q (telling to word) (λ s. s.kept) (λ s. refl) y.0 in
-            elim (cases_order k to) [
+            elim (same_or_apart k to) [
               | inl same ↦
                   let w_is : w ≡ out = some_of w out (sym here ∙ ap (λ (n : ℕ). slice_get (set waits to out) n) same ∙ set_here waits to out (slice_get_within waits to old was)) in
-                  elim (cases_order j i) [
+                  elim (same_or_apart j i) [
                     | inl place ↦
                         let row_is : y.0 ≡ row = some_of y.0 row (sym y.1 ∙ ap (λ (n : ℕ). slice_get rows n) place ∙ at) in
                         let gone_w : has w j ≡ false = ap (λ (s : PlaceSet). has s j) w_is ∙ ap (has out) place ∙ gone in
@@ -294,15 +316,13 @@ module _ (net : Plan) (router : ℕ) (peers : List Peer) (keys : List PrefixView
                         ap (λ (s : Row). slice_get s.sent k) (y.2 ∙ ap told row_is) ∙ ap (λ (n : ℕ). slice_get (told row).sent n) same ∙ sent_here
                         ∙ ap (λ (p2 : List ℕ). Some (Sequence p2)) (sym (kept_as ∙ ap (λ (s : Row). s.kept) row_is)) in
                         (λ t. absurd (both_ways (has w j) gone_w t), λ u. absurd (u.1 sent_is))
-                    | inr differ ↦
-                        let apart : j ≢ i = λ z. elim differ [ inl l ↦ omega (arith, l, z) | inr m ↦ omega (arith, m, z) ] in
+                    | inr apart ↦
                         let row_is : r ≡ y.0 = y.2 ∙ on_there q (telling to word) y.0 (elsewhere j y.0 y.1 apart) in
                         subst (λ (b : Bool). b ≡ true ↔ ((p.up ≡ true) × (slice_get r.sent k ≢ Some (Sequence r.kept)))) (sym (ap (λ (s : PlaceSet). has s j) w_is ∙ others j apart))
                         (subst (λ (s : Row). has old j ≡ true ↔ ((p.up ≡ true) × (slice_get s.sent k ≢ Some (Sequence s.kept)))) (sym row_is)
                         (rib.told.each k p old there (ap (λ (n : ℕ). slice_get waits n) same ∙ was) j y.0 y.1))
                   ]
-              | inr differ ↦
-                  let apart : k ≢ to = λ z. elim differ [ inl l ↦ omega (arith, l, z) | inr m ↦ omega (arith, m, z) ] in
+              | inr apart ↦
                   let sent_as : slice_get r.sent k ≡ slice_get y.0.sent k = ap (λ (s : Row). slice_get s.sent k) y.2 ∙ sent_there k apart y.0 in
                   subst (λ (o : Option Word). has w j ≡ true ↔ ((p.up ≡ true) × (o ≢ Some (Sequence r.kept)))) (sym sent_as)
                   (subst (λ (p2 : List ℕ). has w j ≡ true ↔ ((p.up ≡ true) × (slice_get y.0.sent k ≢ Some (Sequence p2)))) (sym kept_as)
@@ -314,8 +334,7 @@ module _ (net : Plan) (router : ℕ) (peers : List Peer) (keys : List PrefixView
     pub tells_view : (new : List Row) → new ≡ set rows i (telling to word row) → TellsKept (view_of net router peers rows) (view_of net router peers new) x.asn q
     tells_view new e = subst (λ (rs : List Row). TellsKept (view_of net router peers rows) (view_of net router peers rs) x.asn q) (sym (rows_set (telling to word) new e)) (record {
       told =
-          ap (λ (p : PrefixView). word_of (said_in (λ r. r.sent) peers (map told rows)) x.asn p) (sym is)
-          ∙ new_word net router peers keys rows whole told told_prefix (λ r. r.sent) i to row x word at peer sent_here
+          new_word net router peers keys rows whole told told_prefix (λ r. r.sent) x.asn q i to row x word at is peer refl sent_here
           ∙ ap Sequence (sym (kept_at rows q i row (once net router peers keys rows whole) at is));
       others = λ v p either. same_word net router peers keys rows whole told told_prefix (λ r. r.sent) (λ r h. h.sent) v p (λ j k r y there of here number.
           elim either [

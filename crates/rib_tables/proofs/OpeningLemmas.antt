@@ -16,7 +16,7 @@ use Rattle.rib_tables.specs.declared.row.Peer.{Peer}
 use Rattle.rib_tables.specs.declared.row.Row.{Row}
 use Rattle.rib_tables.specs.Places.{has}
 use Rattle.rib_tables.specs.Words.{nothing}
-use Rattle.rib_tables.specs.Tables.{word_of, IsSilent}
+use Rattle.rib_tables.specs.Tables.{IsSilent}
 use Rattle.rib_tables.specs.Choices.{Speaks}
 use Rattle.rib_tables.specs.Owners.{IsNew}
 use Rattle.rib_tables.specs.Rows.{IsRow, AreRows, IsRowBest, IsRib, IsFresh, AreFresh, said_in, view_of}
@@ -179,9 +179,7 @@ module _ (net : Plan) (router : ℕ) (table : Table) (numbers : List ℕ) (rows 
           let lt = slice_get_within peers peer.0 peer.1 peer.2 in
           let under : peer.0 < length (line row.1) = (let l = s.0 in omega (arith, lt, l, size)) in
           let word : slice_get (line row.1) peer.0 ≡ Some nothing = slice_get-get_or (line row.1) peer.0 nothing under ∙ ap Some (s.1 peer.0 nothing under) in
-          ap (λ (u : ℕ). word_of (said_in line peers rows) u q) (sym peer.3)
-          ∙ ap (λ (p : PrefixView). word_of (said_in line peers rows) peer.1.asn p) (sym row.3)
-          ∙ old_word net router peers keys rows first_rows (λ r. r) (λ r. refl) line row.0 peer.0 row.1 peer.1 nothing row.2 peer.2 word
+          old_word net router peers keys rows first_rows (λ r. r) (λ r. refl) line v q row.0 peer.0 row.1 peer.1 nothing row.2 row.3 peer.2 peer.3 word
     ]
   ]
 

@@ -192,13 +192,13 @@ module _ (net : Plan) (router : ℕ) (peers : List Peer) (keys : List PrefixView
       once_rows i j x.0 y.0 x.1 y.1 (sym (ap (λ (s : Row). s.prefix) x.2 ∙ prefix x.0) ∙ e ∙ ap (λ (s : Row). s.prefix) y.2 ∙ prefix y.0)
 
   -- the word of a peer for the prefix of a row
-  pub new_word : (i k : ℕ) (r : Row) (p : Peer) (w : Word) → slice_get rows i ≡ Some r → slice_get peers k ≡ Some p → slice_get (line (f r)) k ≡ Some w → word_of (said_in line peers (map f rows)) p.asn r.prefix ≡ w
-  new_word i k r p w at there word =
-      word_at p.asn r.prefix line peers (map f rows) i k (f r) p w (peer_once peers whole.apart) once_mapped (to_map f rows i r at) (prefix r) there refl word
+  pub new_word : (v : ℕ) (q : PrefixView) (i k : ℕ) (r : Row) (p : Peer) (w : Word) → slice_get rows i ≡ Some r → r.prefix ≡ q → slice_get peers k ≡ Some p → p.asn ≡ v → slice_get (line (f r)) k ≡ Some w
+      → word_of (said_in line peers (map f rows)) v q ≡ w
+  new_word v q i k r p w at is there of word = word_at v q line peers (map f rows) i k (f r) p w (peer_once peers whole.apart) once_mapped (to_map f rows i r at) (prefix r ∙ is) there of word
 
-  pub old_word : (i k : ℕ) (r : Row) (p : Peer) (w : Word) → slice_get rows i ≡ Some r → slice_get peers k ≡ Some p → slice_get (line r) k ≡ Some w → word_of (said_in line peers rows) p.asn r.prefix ≡ w
-  old_word i k r p w at there word =
-      word_at p.asn r.prefix line peers rows i k r p w (peer_once peers whole.apart) once_rows at refl there refl word
+  pub old_word : (v : ℕ) (q : PrefixView) (i k : ℕ) (r : Row) (p : Peer) (w : Word) → slice_get rows i ≡ Some r → r.prefix ≡ q → slice_get peers k ≡ Some p → p.asn ≡ v → slice_get (line r) k ≡ Some w
+      → word_of (said_in line peers rows) v q ≡ w
+  old_word v q i k r p w at is there of word = word_at v q line peers rows i k r p w (peer_once peers whole.apart) once_rows at is there of word
 
   -- where the words for a prefix are as they were, so is the look-up
   pub same_word : ((r : Row) → IsRow net router peers r → length (line r) ≡ length peers) → (v : ℕ) (q : PrefixView)
@@ -217,12 +217,8 @@ module _ (net : Plan) (router : ℕ) (peers : List Peer) (keys : List PrefixView
           let lt = slice_get_within peers k p peer.2 in
           let size = long r (whole.each i r row.2) in
           let word = slice_get-get_or (line r) k nothing (omega (arith, lt, size)) in
-          let both = new_word i k r p (get_or (line r) k nothing) row.2 peer.2 (same i k r p row.2 row.3 peer.2 peer.3 ∙ word) ∙ sym (old_word i k r p (get_or (line r) k nothing) row.2 peer.2 word) in
-          ap (λ (u : ℕ). word_of (said_in line peers (map f rows)) u q) (sym peer.3)
-          ∙ ap (λ (s : PrefixView). word_of (said_in line peers (map f rows)) p.asn s) (sym row.3)
-          ∙ both
-          ∙ ap (λ (s : PrefixView). word_of (said_in line peers rows) p.asn s) row.3
-          ∙ ap (λ (u : ℕ). word_of (said_in line peers rows) u q) peer.3
+          new_word v q i k r p (get_or (line r) k nothing) row.2 row.3 peer.2 peer.3 (same i k r p row.2 row.3 peer.2 peer.3 ∙ word)
+          ∙ sym (old_word v q i k r p (get_or (line r) k nothing) row.2 row.3 peer.2 peer.3 word)
     ]
   ]
 
@@ -277,8 +273,7 @@ module _ (k : ℕ) (u : Update) (net : Plan) (router : ℕ) (peers : List Peer) 
   applies = record {
     said = λ q word name says.
         let row = named_row net router peers keys rows whole q name in
-        ap (λ (p : PrefixView). word_of (said_in (λ r. r.heard) peers (map (hearing_update k u) rows)) x.asn p) (sym row.3)
-        ∙ new_word net router peers keys rows whole (hearing_update k u) hears_prefix (λ r. r.heard) row.0 k row.1 x word row.2 at (says_row row.0 row.1 row.2 word (subst (λ (p : PrefixView). Says u p word) (sym row.3) says));
+        new_word net router peers keys rows whole (hearing_update k u) hears_prefix (λ r. r.heard) x.asn q row.0 k row.1 x word row.2 row.3 at refl (says_row row.0 row.1 row.2 word (subst (λ (p : PrefixView). Says u p word) (sym row.3) says));
     unsaid = λ q silent. same_word net router peers keys rows whole (hearing_update k u) hears_prefix (λ r. r.heard) long x.asn q
         (λ i j r p there is here e.
         ap (λ (y : Row). slice_get y.heard j) (unmentioned k u r (ap (mentions u) is ∙ by_test (mentions u q) (Mentions u q) (decides_mentions u q) silent)));
@@ -321,6 +316,9 @@ module _ (net : Plan) (router : ℕ) (peers : List Peer) (keys : List PrefixView
       let mine = subst (λ (s : RibView). slice_get (peers_of s.net s.router) k ≡ Some v) (sym same) at in
       let x = from_map (λ (p : Peer). p.asn) peers k v (ap (λ (ns : List ℕ). slice_get ns k) whole.numbers ∙ mine) in
       (x.0, x.1, sym x.2)
+
+  pub place_in : (view : RibView) → view_of net router peers rows ≡ view → (k : ℕ) → slice_get (peers_of view.net view.router) k ≡ Some v → k < length peers
+  place_in view same k at = let here = peer_at_place view same k at in slice_get_within peers k here.0 here.1
 
   pub place_at_peer : (k : ℕ) (p : Peer) → slice_get peers k ≡ Some p → p.asn ≡ v → slice_get (peers_of net router) k ≡ Some v
   place_at_peer k p at e = ap (λ (ns : List ℕ). slice_get ns k) (sym whole.numbers) ∙ to_map (λ (p : Peer). p.asn) peers k p at ∙ ap Some e

@@ -1,5 +1,5 @@
 -- A router of a network has one table of policies, and so one best path.
-use Rattle.std.proofs.Common.{◌≡◌, ℕ, List, [], sym, ap, subst, ◌∙◌, inl, inr}
+use Rattle.std.proofs.Common.{◌≡◌, ◌≢◌, ℕ, List, [], sym, ap, subst, ◌∙◌, inl, inr}
 use Rattle.std.specs.Prelude.{◌↔◌}
 use Rattle.std.specs.List.{Contains}
 use Rattle.prefix_lanes.specs.Bits.{PrefixView}
@@ -9,13 +9,11 @@ use Rattle.ranked_policy.specs.Policies.{Table, IsTable, IsTableOf, Originates}
 use Rattle.ranked_policy.specs.Promises.{EachPolicyIsAnOrder}
 use Rattle.rib_tables.specs.declared.word.Word.TheVariants.{Sequence}
 use Rattle.rib_tables.specs.Words.{path_in}
-use Rattle.rib_tables.specs.Choices.{Hears, IsChoice, IsOwn, IsBestOf}
+use Rattle.rib_tables.specs.Choices.{Hears, IsOwn, IsBestOf}
 use Rattle.rib_tables.specs.Promises.{OneBest, HasPathOf, BestAmongPaths, BestOverWords}
-use Rattle.rib_tables.specs.declared.word.Word.{Word}
-use Rattle.rib_tables.specs.declared.word.Word.TheVariants as word
 use Rattle.rib_tables.specs.Tables.{word_of}
-use Rattle.std.proofs.Common.{◌≢◌}
-use Rattle.rib_tables.proofs.ChoiceLemmas.{first_once}
+use Rattle.rib_tables.proofs.ChoiceLemmas.{first_once, word_is}
+use Rattle.rib_tables.proofs.RowChoices.{first_as}
 use Rattle.ranked_policy.proofs.OneTable.{one_table, table_stands}
 
 -- the router is an origin by the network exactly where it is by its table
@@ -47,57 +45,22 @@ one_best law s is q a b x y =
     best_once law (Contains s.originated q) (Hears s.heard s.established q) x.0 q a b table x.2
     (subst (λ (t : Table). IsBestOf (Contains s.originated q) (Hears s.heard s.established q) t q b) same y.2)
 
--- ---- the same choices from words that are the same
+-- ---- the same choices where the same paths are heard
 
-choice_as : (One Other : ℕ → List ℕ → Type 0) (t : Table) (q : PrefixView) (path : List ℕ) → ((v : ℕ) (p : List ℕ) → One v p → Other v p) → IsChoice One t q path → IsChoice Other t q path
-choice_as One Other t q path onto c = record { peer = c.peer; rest = c.rest; heard = onto c.peer c.rest c.heard; some = c.some; goes_on = c.goes_on; permitted = c.permitted }
-
-pub best_as : (Originated : Type 0) (One Other : ℕ → List ℕ → Type 0) (t : Table) (q : PrefixView) (path : List ℕ) → ((v : ℕ) (p : List ℕ) → One v p → Other v p) → ((v : ℕ) (p : List ℕ) → Other v p → One v p)
+pub best_as : (Originated : Type 0) (One Other : ℕ → List ℕ → Type 0) (t : Table) (q : PrefixView) (path : List ℕ) → ((v : ℕ) (p : List ℕ) → p ≢ [] → One v p → Other v p) → ((v : ℕ) (p : List ℕ) → p ≢ [] → Other v p → One v p)
     → IsBestOf Originated One t q path → IsBestOf Originated Other t q path
 best_as Originated One Other t q path onto back (inl own) = inl own
-best_as Originated One Other t q path onto back (inr x) = inr (
-  x.0,
-  elim x.1 [
-    | inl first ↦ inl (record {
-      choice = choice_as One Other t q path onto first.choice;
-      before = λ other c apart. first.before other (choice_as Other One t q other back c) apart;
-    })
-    | inr none ↦ inr (none.0, λ other c. none.1 other (choice_as Other One t q other back c))
-  ],
-)
+best_as Originated One Other t q path onto back (inr x) = inr (x.0, first_as t q One Other path onto back x.1)
 
 pub best_among : BestAmongPaths
 best_among s q paths hears path =
     let Mine : ℕ → List ℕ → Type 0 = Hears s.heard s.established q in
     let Theirs : ℕ → List ℕ → Type 0 = HasPathOf s.net paths s.router in
-    let onto : (v : ℕ) (p : List ℕ) → Mine v p → Theirs v p = λ v p m.
+    let onto : (v : ℕ) (p : List ℕ) → p ≢ [] → Mine v p → Theirs v p = λ v p some m.
     let linked = (hears.linked v).0 m.0 in
     (linked, ap path_in (sym m.1 ∙ hears.words v linked)) in
-    let back : (v : ℕ) (p : List ℕ) → Theirs v p → Mine v p = λ v p t. ((hears.linked v).1 t.0, hears.words v t.0 ∙ ap Sequence (sym t.1)) in
+    let back : (v : ℕ) (p : List ℕ) → p ≢ [] → Theirs v p → Mine v p = λ v p some t. ((hears.linked v).1 t.0, hears.words v t.0 ∙ ap Sequence (sym t.1)) in
     (λ b. (b.0, b.1, best_as (Contains s.originated q) Mine Theirs b.0 q path onto back b.2), λ b. (b.0, b.1, best_as (Contains s.originated q) Theirs Mine b.0 q path back onto b.2))
-
--- ---- the same choices, where only paths that are there count
-
-some_as : (One Other : ℕ → List ℕ → Type 0) (t : Table) (q : PrefixView) (path : List ℕ) → ((v : ℕ) (p : List ℕ) → p ≢ [] → One v p → Other v p) → IsChoice One t q path → IsChoice Other t q path
-some_as One Other t q path onto c = record { peer = c.peer; rest = c.rest; heard = onto c.peer c.rest c.some c.heard; some = c.some; goes_on = c.goes_on; permitted = c.permitted }
-
-best_some : (Originated : Type 0) (One Other : ℕ → List ℕ → Type 0) (t : Table) (q : PrefixView) (path : List ℕ) → ((v : ℕ) (p : List ℕ) → p ≢ [] → One v p → Other v p) → ((v : ℕ) (p : List ℕ) → p ≢ [] → Other v p → One v p)
-    → IsBestOf Originated One t q path → IsBestOf Originated Other t q path
-best_some Originated One Other t q path onto back (inl own) = inl own
-best_some Originated One Other t q path onto back (inr x) = inr (
-  x.0,
-  elim x.1 [
-    | inl first ↦ inl (record {
-      choice = some_as One Other t q path onto first.choice;
-      before = λ other c apart. first.before other (some_as Other One t q other back c) apart;
-    })
-    | inr none ↦ inr (none.0, λ other c. none.1 other (some_as Other One t q other back c))
-  ],
-)
-
-sequence_from : (w : Word) (p : List ℕ) → p ≢ [] → p ≡ path_in w → w ≡ Sequence p
-sequence_from (Sequence path) p some e = ap Sequence (sym e)
-sequence_from word.Other p some e = absurd (some e)
 
 pub best_over_words : BestOverWords
 best_over_words s q words hears path =
@@ -107,5 +70,5 @@ best_over_words s q words hears path =
     let linked = hears.linked v m.0 in
     (linked, elim (hears.said v linked) [ inl up ↦ ap path_in (sym m.1) ∙ sym up.1 | inr down ↦ absurd (down.0 m.0) ]) in
     let back : (v : ℕ) (p : List ℕ) → p ≢ [] → Theirs v p → Mine v p = λ v p some t.
-    elim (hears.said v t.0) [ inl up ↦ (up.0, sequence_from (word_of s.heard v q) p some (t.1 ∙ up.1)) | inr down ↦ absurd (some (t.1 ∙ down.1)) ] in
-    (λ b. (b.0, b.1, best_some (Contains s.originated q) Mine Theirs b.0 q path onto back b.2), λ b. (b.0, b.1, best_some (Contains s.originated q) Theirs Mine b.0 q path back onto b.2))
+    elim (hears.said v t.0) [ inl up ↦ (up.0, word_is (word_of s.heard v q) p (t.1 ∙ up.1) some) | inr down ↦ absurd (some (t.1 ∙ down.1)) ] in
+    (λ b. (b.0, b.1, best_as (Contains s.originated q) Mine Theirs b.0 q path onto back b.2), λ b. (b.0, b.1, best_as (Contains s.originated q) Theirs Mine b.0 q path back onto b.2))

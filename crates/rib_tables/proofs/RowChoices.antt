@@ -25,6 +25,10 @@ module _ {X : Type 0} where
   unfolding or_else
   some_of x y e = ap (or_else x) e
 
+-- two places are one, or apart
+pub same_or_apart : (i j : ℕ) → (i ≡ j) ⊎ (i ≢ j)
+same_or_apart i j = elim (cases_order i j) [ inl same ↦ inl same | inr differ ↦ inr (λ e. elim differ [ inl l ↦ omega (arith, l, e) | inr m ↦ omega (arith, m, e) ]) ]
+
 pub path_by_some : (router : ℕ) (rest : List ℕ) → rest ≢ [] → path_by router rest ≡ router ∷ rest
 path_by_some router [] some = absurd (some refl)
 path_by_some router (v ∷ rest) some = refl

@@ -2,8 +2,7 @@
 use Rattle.std.proofs.Common.{◌≡◌, ◌≢◌, ℕ, zero, suc, ◌<◌, true, false, List, [], ◌∷◌, length, get_or, refl, sym, ap, subst, ◌∙◌, arith, inl, inr, ◌⊎◌, Some}
 use Rattle.std.specs.Prelude.{◌↔◌}
 use Rattle.std.specs.List.{slice_get, Contains}
-use Rattle.std.proofs.lemmas.Bool.{cases_Bool, cases_order, both_ways, cond-true, cond-false, false_from_ne_true}
-use Rattle.std.proofs.lemmas.List.Elements.{Contains-get_or, Contains-append_right, Contains-append_cases}
+use Rattle.std.proofs.lemmas.Bool.{cases_order, both_ways, false_from_ne_true}
 use Rattle.std.proofs.lemmas.Option.{slice_get_within, get_or_from_slice_get, slice_get-get_or}
 use Rattle.prefix_lanes.specs.Bits.{PrefixView, is_prefix}
 use Rattle.ranked_policy.specs.declared.network.Origin.{Origin}
@@ -29,7 +28,7 @@ use Rattle.rib_tables.proofs.RouterLemmas.{best_as}
 use Rattle.rib_tables.proofs.RowChoices.{some_of}
 use Rattle.rib_tables.proofs.ChangeLemmas.{key_at, from_map}
 use Rattle.rib_tables.proofs.RibLemmas.{row_once, peer_once, fit_of, old_word, named_row, row_named}
-use Rattle.rib_tables.proofs.SessionLemmas.{up_listed, listed_up}
+use Rattle.rib_tables.proofs.SessionLemmas.{picks, picked_from, up_listed, listed_up}
 
 -- ---- kept paths
 
@@ -53,31 +52,10 @@ kept_at (x ∷ xs) q (suc i) r once at is =
 -- ---- what is originated
 
 pub originated_listed : (rows : List Row) (i : ℕ) (r : Row) → slice_get rows i ≡ Some r → r.originated ≡ true → Contains (originated_in rows) r.prefix
-originated_listed [] i r at up = absurd (let lt = slice_get_within [] i r at in omega (arith, lt))
-originated_listed (x ∷ xs) zero r at up =
-    let same : x ≡ r = some_of x r at in
-    subst (λ (l : List PrefixView). Contains l r.prefix) (sym (cond-true x.originated (x.prefix ∷ originated_in xs) (originated_in xs) (ap (λ (y : Row). y.originated) same ∙ up)))
-    (subst (λ (p : PrefixView). Contains (x.prefix ∷ originated_in xs) p) (ap (λ (y : Row). y.prefix) same) (Contains-get_or (x.prefix ∷ originated_in xs) 0 x.prefix (omega arith)))
-originated_listed (x ∷ xs) (suc i) r at up =
-    let rest = originated_listed xs i r at up in
-    elim (cases_Bool x.originated) [
-      | inl t ↦ subst (λ (l : List PrefixView). Contains l r.prefix) (sym (cond-true x.originated (x.prefix ∷ originated_in xs) (originated_in xs) t)) (Contains-append_right (x.prefix ∷ []) (originated_in xs) r.prefix rest)
-      | inr f ↦ subst (λ (l : List PrefixView). Contains l r.prefix) (sym (cond-false x.originated (x.prefix ∷ originated_in xs) (originated_in xs) f)) rest
-    ]
+originated_listed = picks (λ r. r.originated) (λ r. r.prefix)
 
 pub listed_originated : (rows : List Row) (q : PrefixView) → Contains (originated_in rows) q → (i : ℕ) × (r : Row) × (slice_get rows i ≡ Some r) × (r.originated ≡ true) × (r.prefix ≡ q)
-listed_originated [] q c = absurd (let lt = c.1 in omega (arith, lt))
-listed_originated (x ∷ xs) q c = elim (cases_Bool x.originated) [
-  | inl t ↦ elim (Contains-append_cases (x.prefix ∷ []) (originated_in xs) q (subst (λ (l : List PrefixView). Contains l q) (cond-true x.originated (x.prefix ∷ originated_in xs) (originated_in xs) t) c)) [
-    | inl here ↦ (0, x, refl, t, only here.0 here.1 here.2)
-    | inr there ↦ let r = listed_originated xs q there in (suc r.0, r.1, r.2, r.3, r.4)
-  ]
-  | inr f ↦ let r = listed_originated xs q (subst (λ (l : List PrefixView). Contains l q) (cond-false x.originated (x.prefix ∷ originated_in xs) (originated_in xs) f) c) in (suc r.0, r.1, r.2, r.3, r.4)
-]
-  where
-    only : (k : ℕ) → k < 1 → get_or (x.prefix ∷ []) k q ≡ q → x.prefix ≡ q
-    only zero lt e = e
-    only (suc k) lt e = absurd (omega (arith, lt))
+listed_originated = picked_from (λ r. r.originated) (λ r. r.prefix)
 
 -- ---- words
 
@@ -89,7 +67,7 @@ word_or_not word.Other path = inr (λ e. absurd cc)
 best_between : (O P : Type 0) (One Other : ℕ → List ℕ → Type 0) (t : Table) (q : PrefixView) (path : List ℕ) → (O ↔ P) → ((v : ℕ) (p : List ℕ) → One v p → Other v p) → ((v : ℕ) (p : List ℕ) → Other v p → One v p)
     → IsBestOf O One t q path → IsBestOf P Other t q path
 best_between O P One Other t q path same onto back (inl own) = inl (own.0, elim own.1 [ inl x ↦ inl (same.0 x.0, x.1) | inr x ↦ inr ((λ p. x.0 (same.1 p)), x.1) ])
-best_between O P One Other t q path same onto back (inr x) = best_as P One Other t q path onto back (inr x)
+best_between O P One Other t q path same onto back (inr x) = best_as P One Other t q path (λ v p _. onto v p) (λ v p _. back v p) (inr x)
 
 -- ---- prefixes by their order
 
@@ -177,7 +155,7 @@ module _ (net : Plan) (router : ℕ) (peers : List Peer) (keys : List PrefixView
     Other = Hears (said_in (λ r. r.heard) peers rows) (established_in peers) r.prefix
 
     word_here : (line : Row → List Word) (k : ℕ) (p : Peer) (w : Word) → slice_get peers k ≡ Some p → slice_get (line r) k ≡ Some w → word_of (said_in line peers rows) p.asn r.prefix ≡ w
-    word_here line k p w there word = old_word net router peers keys rows whole (λ s. s) (λ s. refl) line i k r p w at there word
+    word_here line k p w there word = old_word net router peers keys rows whole (λ s. s) (λ s. refl) line p.asn r.prefix i k r p w at refl there refl word
 
     hears_onto : (v : ℕ) (p : List ℕ) → One v p → Other v p
     hears_onto v p h = (

@@ -1,16 +1,16 @@
--- The owner's invariant as sessions come up and are left, and as a path is kept.
+-- The owner's invariant as sessions come up and are left.
 use Rattle.std.proofs.Common.{◌≡◌, ◌≢◌, ℕ, zero, suc, ◌<◌, Bool, true, false, List, [], ◌∷◌, ◌++◌, length, get_or, set, map, refl, sym, ap, subst, ◌∙◌, arith, inl, inr, ◌⊎◌, Some, Option}
 use Rattle.std.specs.Prelude.{◌↔◌}
 use Rattle.std.specs.List.{slice_get, Contains}
 use Rattle.std.proofs.lemmas.List.Elements.{Contains-get_or, Contains-append_right, Contains-append_cases}
 use Rattle.std.proofs.Math.Seq.{map-set_same}
 use Rattle.std.proofs.Common.{drop}
-use Rattle.rib_tables.specs.Tables.{Words, word_of, Forgets}
+use Rattle.rib_tables.specs.Tables.{Words, Forgets}
 use Rattle.rib_tables.specs.Owners.{ComesUp, ForgetsPeer}
-use Rattle.std.proofs.lemmas.Bool.{cases_Bool, cases_order, both_ways, cond-true, cond-false, false≢true}
+use Rattle.std.proofs.lemmas.Bool.{cases_Bool, both_ways, cond-true, cond-false, false≢true}
 use Rattle.std.proofs.lemmas.List.{length-set}
 use Rattle.std.proofs.lemmas.Option.{slice_get_within, get_or_from_slice_get, slice_get-get_or}
-use Rattle.prefix_lanes.specs.Bits.{PrefixView, is_prefix}
+use Rattle.prefix_lanes.specs.Bits.{PrefixView}
 use Rattle.ranked_policy.specs.Plans.{Plan, Linked}
 use Rattle.rib_tables.specs.declared.word.Word.{Word}
 use Rattle.rib_tables.specs.declared.word.Word.TheVariants.{Sequence}
@@ -20,10 +20,11 @@ use Rattle.rib_tables.specs.declared.row.Row.{Row}
 use Rattle.rib_tables.specs.Places.{has}
 use Rattle.rib_tables.specs.Words.{nothing}
 use Rattle.rib_tables.specs.Choices.{IsBestOf}
-use Rattle.rib_tables.specs.Rows.{RowHears, IsRow, AreRows, AreDecided, IsRowBest, IsRib, Marks, MarksSpeaking, Speaking, forgetting, keeping, on, says_in, said_in, established_in, originated_in, kept_in, view_of}
-use Rattle.rib_tables.proofs.RowChoices.{some_of, first_as}
+use Rattle.rib_tables.specs.Rows.{RowHears, IsRow, AreRows, IsRowBest, IsRib, MarksSpeaking, Speaking, forgetting, picked, says_in, said_in, established_in, originated_in, kept_in, view_of}
+use Rattle.rib_tables.proofs.RowChoices.{some_of, same_or_apart}
+use Rattle.rib_tables.proofs.RouterLemmas.{best_as}
 use Rattle.rib_tables.proofs.ChangeLemmas.{from_map, map_after}
-use Rattle.rib_tables.proofs.RibLemmas.{set_here, set_there, rows_map, decided_map, row_or_not, new_word, same_word, originated_map, kept_map, peer_once}
+use Rattle.rib_tables.proofs.RibLemmas.{set_here, set_there, row_or_not, new_word, same_word, originated_map, kept_map, peer_once}
 use Rattle.rib_tables.proofs.ViewLemmas.{no_row}
 
 -- the best of a row, where the same paths are heard
@@ -33,11 +34,8 @@ pub row_best_as : (net : Plan) (router : ℕ) (before after : List Peer) (r s : 
     → IsRowBest net router before r path → IsRowBest net router after s path
 row_best_as net router before after r s path prefix originated onto back best =
     let Goal : Bool → PrefixView → Type 0 = λ b q. IsBestOf (b ≡ true) (RowHears after s.heard (length after)) best.0 q path in
-    (best.0, best.1, subst (λ (b : Bool). Goal b s.prefix) (sym originated) (subst (λ (q : PrefixView). Goal r.originated q) (sym prefix) (changed best.2)))
-  where
-    changed : IsBestOf (r.originated ≡ true) (RowHears before r.heard (length before)) best.0 r.prefix path → IsBestOf (r.originated ≡ true) (RowHears after s.heard (length after)) best.0 r.prefix path
-    changed (inl own) = inl own
-    changed (inr x) = inr (x.0, first_as best.0 r.prefix (RowHears before r.heard (length before)) (RowHears after s.heard (length after)) path onto back x.1)
+    let changed = best_as (r.originated ≡ true) (RowHears before r.heard (length before)) (RowHears after s.heard (length after)) best.0 r.prefix path onto back best.2 in
+    (best.0, best.1, subst (λ (b : Bool). Goal b s.prefix) (sym originated) (subst (λ (q : PrefixView). Goal r.originated q) (sym prefix) changed))
 
 some_path : (p : List ℕ) → p ≢ [] → (v : ℕ) × (rest : List ℕ) × (p ≡ v ∷ rest)
 some_path [] some = absurd (some refl)
@@ -65,10 +63,9 @@ module _ (net : Plan) (router : ℕ) (peers : List Peer) (keys : List PrefixView
 
   -- a peer of the changed list: that one, or another as it was
   peer_of : (up : Bool) (j : ℕ) (p : Peer) → slice_get (turned up) j ≡ Some p → ((j ≡ k) × (p ≡ record { asn = x.asn; up = up })) ⊎ ((j ≢ k) × (slice_get peers j ≡ Some p))
-  peer_of up j p there = elim (cases_order j k) [
+  peer_of up j p there = elim (same_or_apart j k) [
     | inl same ↦ inl (same, some_of p (record { asn = x.asn; up = up }) (sym there ∙ ap (λ (n : ℕ). slice_get (turned up) n) same ∙ set_here peers k (record { asn = x.asn; up = up }) inside))
-    | inr differ ↦
-        let apart : j ≢ k = λ e. elim differ [ inl l ↦ omega (arith, l, e) | inr m ↦ omega (arith, m, e) ] in
+    | inr apart ↦
         inr (apart, sym (set_there peers k j (record { asn = x.asn; up = up }) apart) ∙ there)
   ]
 
@@ -87,15 +84,14 @@ module _ (net : Plan) (router : ℕ) (peers : List Peer) (keys : List PrefixView
     apart = λ i j d lt below e.
         let s = size up in
         rib.whole.apart i j d lt (omega (arith, below, s)) (sym (number_of up i d (omega (arith, lt, below, s))) ∙ e ∙ number_of up j d (omega (arith, below, s)));
-    linked = λ v link. let there = rib.whole.linked v link in elim (cases_order there.0 k) [
+    linked = λ v link. let there = rib.whole.linked v link in elim (same_or_apart there.0 k) [
       | inl same ↦ (
         k,
         record { asn = x.asn; up = up },
         set_here peers k (record { asn = x.asn; up = up }) inside,
         ap (λ (p : Peer). p.asn) (some_of x there.1 (sym at ∙ ap (λ (n : ℕ). slice_get peers n) (sym same) ∙ there.2)) ∙ there.3,
       )
-      | inr differ ↦
-          let apart : there.0 ≢ k = λ e. elim differ [ inl l ↦ omega (arith, l, e) | inr m ↦ omega (arith, m, e) ] in
+      | inr apart ↦
           (there.0, there.1, set_there peers k there.0 (record { asn = x.asn; up = up }) apart ∙ there.2, there.3)
     ];
     known = λ j p there. elim (peer_of up j p there) [
@@ -114,10 +110,9 @@ module _ (net : Plan) (router : ℕ) (peers : List Peer) (keys : List PrefixView
 
   forgotten_best : (r : Row) (path : List ℕ) → (Speaking k r → ⊥) → IsRowBest net router peers r path → IsRowBest net router (turned false) (forgetting k r) path
   forgotten_best r path silent best = row_best_as net router peers (turned false) r (forgetting k r) path refl refl
-      (λ v p some h. elim (cases_order h.place k) [
+      (λ v p some h. elim (same_or_apart h.place k) [
         | inl same ↦ absurd (silent (speaks_there k r p some (ap (λ (n : ℕ). slice_get r.heard n) (sym same) ∙ h.word)))
-        | inr differ ↦
-            let apart : h.place ≢ k = λ e. elim differ [ inl l ↦ omega (arith, l, e) | inr m ↦ omega (arith, m, e) ] in
+        | inr apart ↦
             record {
               place = h.place;
               below = (let b = h.below in let s = size false in omega (arith, b, s));
@@ -174,10 +169,9 @@ module _ (net : Plan) (router : ℕ) (peers : List Peer) (keys : List PrefixView
 
   risen_best : (r : Row) (path : List ℕ) → (Speaking k r → ⊥) → IsRowBest net router peers r path → IsRowBest net router (turned true) r path
   risen_best r path silent best = row_best_as net router peers (turned true) r r path refl refl
-      (λ v p some h. elim (cases_order h.place k) [
+      (λ v p some h. elim (same_or_apart h.place k) [
         | inl same ↦ absurd (silent (speaks_there k r p some (ap (λ (n : ℕ). slice_get r.heard n) (sym same) ∙ h.word)))
-        | inr differ ↦
-            let apart : h.place ≢ k = λ e. elim differ [ inl l ↦ omega (arith, l, e) | inr m ↦ omega (arith, m, e) ] in
+        | inr apart ↦
             record {
               place = h.place;
               below = (let b = h.below in let s = size true in omega (arith, b, s));
@@ -220,78 +214,41 @@ module _ (net : Plan) (router : ℕ) (peers : List Peer) (keys : List PrefixView
       map_id [] = refl
       map_id (r ∷ rs) = ap (λ (ss : List Row). r ∷ ss) (map_id rs)
 
--- ---- a path is kept
-
-pub keep_keeps_rib : (net : Plan) (router : ℕ) (peers : List Peer) (keys : List PrefixView) (rows new : List Row) (dirty marked : PlaceSet) (waits told : List PlaceSet) (q : PrefixView) (place : ℕ) (path : List ℕ)
-    → IsRib net router peers keys rows dirty waits → new ≡ map (on q (keeping path)) rows → Marks (λ r. is_prefix q r.prefix) rows dirty marked
-    → ((i : ℕ) (r : Row) → slice_get rows i ≡ Some r → i ≢ place → is_prefix q r.prefix ≡ false)
-    → length told ≡ length waits
-    → ((k : ℕ) (p : Peer) (w : PlaceSet) (r : Row) → slice_get new place ≡ Some r → slice_get peers k ≡ Some p → slice_get told k ≡ Some w → (has w place ≡ true ↔ ((p.up ≡ true) × (slice_get r.sent k ≢ Some (Sequence r.kept)))))
-    → ((k : ℕ) (w : PlaceSet) → slice_get told k ≡ Some w → (v : PlaceSet) × (slice_get waits k ≡ Some v) × ((i : ℕ) → i ≢ place → has w i ≡ has v i))
-    → IsRib net router peers keys new marked told
-keep_keeps_rib net router peers keys rows new dirty marked waits told q place path rib is marks elsewhere long here others =
-    record {
-      whole = subst (λ (rs : List Row). AreRows net router peers keys rs) (sym is) (rows_map net router peers keys rows (on q (keeping path)) kept_prefix kept_row rib.whole);
-      decided = subst (λ (rs : List Row). AreDecided net router peers rs marked) (sym is) (decided_map net router peers keys rows (on q (keeping path)) kept_prefix marked (λ i r at out.
-          let m = marks i out in
-          subst (λ (s : Row). IsRowBest net router peers s s.kept) (sym (cond-false (is_prefix q r.prefix) (keeping path r) r (m.1 r at))) (rib.decided i r at m.0)));
-      told = record {
-        long = long ∙ rib.told.long;
-        each = λ k p w there told_at i r at.
-            elim (cases_order i place) [
-              | inl same ↦ subst (λ (n : ℕ). has w n ≡ true ↔ ((p.up ≡ true) × (slice_get r.sent k ≢ Some (Sequence r.kept)))) (sym same)
-                  (here k p w r (ap (λ (n : ℕ). slice_get new n) (sym same) ∙ at) there told_at)
-              | inr differ ↦
-                  let apart : i ≢ place = λ e. elim differ [ inl l ↦ omega (arith, l, e) | inr m ↦ omega (arith, m, e) ] in
-                  let y = from_map (on q (keeping path)) rows i r (ap (λ (rs : List Row). slice_get rs i) (sym is) ∙ at) in
-                  let old : r ≡ y.0 = y.2 ∙ cond-false (is_prefix q y.0.prefix) (keeping path y.0) y.0 (elsewhere i y.0 y.1 apart) in
-                  let before = others k w told_at in
-                  subst (λ (b : Bool). b ≡ true ↔ ((p.up ≡ true) × (slice_get r.sent k ≢ Some (Sequence r.kept)))) (sym (before.2 i apart))
-                  (subst (λ (s : Row). has before.0 i ≡ true ↔ ((p.up ≡ true) × (slice_get s.sent k ≢ Some (Sequence s.kept)))) (sym old) (rib.told.each k p before.0 there before.1 i y.0 y.1))
-            ];
-      };
-    }
-  where
-    kept_prefix : (r : Row) → (on q (keeping path) r).prefix ≡ r.prefix
-    kept_prefix r = elim (cases_Bool (is_prefix q r.prefix)) [
-      | inl t ↦ ap (λ (s : Row). s.prefix) (cond-true (is_prefix q r.prefix) (keeping path r) r t)
-      | inr f ↦ ap (λ (s : Row). s.prefix) (cond-false (is_prefix q r.prefix) (keeping path r) r f)
-    ]
-
-    kept_row : (r : Row) → IsRow net router peers r → IsRow net router peers (on q (keeping path) r)
-    kept_row r h = elim (cases_Bool (is_prefix q r.prefix)) [
-      | inl t ↦ subst (IsRow net router peers) (sym (cond-true (is_prefix q r.prefix) (keeping path r) r t)) (record { heard = h.heard; sent = h.sent; speaks = h.speaks; own = h.own })
-      | inr f ↦ subst (IsRow net router peers) (sym (cond-false (is_prefix q r.prefix) (keeping path r) r f)) h
-    ]
-
 -- ---- what look-ups see of a session that comes up or is left
 
-pub up_listed : (peers : List Peer) (k : ℕ) (p : Peer) → slice_get peers k ≡ Some p → p.up ≡ true → Contains (established_in peers) p.asn
-up_listed [] k p at up = absurd (let lt = slice_get_within [] k p at in omega (arith, lt))
-up_listed (x ∷ xs) zero p at up =
-    let same : x ≡ p = some_of x p at in
-    subst (λ (l : List ℕ). Contains l p.asn) (sym (cond-true x.up (x.asn ∷ established_in xs) (established_in xs) (ap (λ (y : Peer). y.up) same ∙ up)))
-    (subst (λ (n : ℕ). Contains (x.asn ∷ established_in xs) n) (ap (λ (y : Peer). y.asn) same) (Contains-get_or (x.asn ∷ established_in xs) 0 0 (omega arith)))
-up_listed (x ∷ xs) (suc k) p at up =
-    let rest = up_listed xs k p at up in
-    elim (cases_Bool x.up) [
-      | inl t ↦ subst (λ (l : List ℕ). Contains l p.asn) (sym (cond-true x.up (x.asn ∷ established_in xs) (established_in xs) t)) (Contains-append_right (x.asn ∷ []) (established_in xs) p.asn rest)
-      | inr f ↦ subst (λ (l : List ℕ). Contains l p.asn) (sym (cond-false x.up (x.asn ∷ established_in xs) (established_in xs) f)) rest
+module _ {X Y : Type 0} (test : X → Bool) (value : X → Y) where
+  pub picks : (xs : List X) (i : ℕ) (x : X) → slice_get xs i ≡ Some x → test x ≡ true → Contains (picked test value xs) (value x)
+  picks [] i x at up = absurd (let lt = slice_get_within [] i x at in omega (arith, lt))
+  picks (y ∷ ys) zero x at up =
+      let same : y ≡ x = some_of y x at in
+      subst (λ (l : List Y). Contains l (value x)) (sym (cond-true (test y) (value y ∷ picked test value ys) (picked test value ys) (ap test same ∙ up)))
+      (subst (λ (v : Y). Contains (value y ∷ picked test value ys) v) (ap value same) (Contains-get_or (value y ∷ picked test value ys) 0 (value y) (omega arith)))
+  picks (y ∷ ys) (suc i) x at up =
+      let rest = picks ys i x at up in
+      elim (cases_Bool (test y)) [
+        | inl t ↦ subst (λ (l : List Y). Contains l (value x)) (sym (cond-true (test y) (value y ∷ picked test value ys) (picked test value ys) t)) (Contains-append_right (value y ∷ []) (picked test value ys) (value x) rest)
+        | inr f ↦ subst (λ (l : List Y). Contains l (value x)) (sym (cond-false (test y) (value y ∷ picked test value ys) (picked test value ys) f)) rest
+      ]
+
+  pub picked_from : (xs : List X) (v : Y) → Contains (picked test value xs) v → (i : ℕ) × (x : X) × (slice_get xs i ≡ Some x) × (test x ≡ true) × (value x ≡ v)
+  picked_from [] v c = absurd (let lt = c.1 in omega (arith, lt))
+  picked_from (y ∷ ys) v c = elim (cases_Bool (test y)) [
+    | inl t ↦ elim (Contains-append_cases (value y ∷ []) (picked test value ys) v (subst (λ (l : List Y). Contains l v) (cond-true (test y) (value y ∷ picked test value ys) (picked test value ys) t) c)) [
+      | inl here ↦ (0, y, refl, t, only here.0 here.1 here.2)
+      | inr there ↦ let r = picked_from ys v there in (suc r.0, r.1, r.2, r.3, r.4)
     ]
+    | inr f ↦ let r = picked_from ys v (subst (λ (l : List Y). Contains l v) (cond-false (test y) (value y ∷ picked test value ys) (picked test value ys) f) c) in (suc r.0, r.1, r.2, r.3, r.4)
+  ]
+    where
+      only : (k : ℕ) → k < 1 → get_or (value y ∷ []) k v ≡ v → value y ≡ v
+      only zero lt e = e
+      only (suc k) lt e = absurd (omega (arith, lt))
+
+pub up_listed : (peers : List Peer) (k : ℕ) (p : Peer) → slice_get peers k ≡ Some p → p.up ≡ true → Contains (established_in peers) p.asn
+up_listed = picks (λ p. p.up) (λ p. p.asn)
 
 pub listed_up : (peers : List Peer) (v : ℕ) → Contains (established_in peers) v → (k : ℕ) × (p : Peer) × (slice_get peers k ≡ Some p) × (p.up ≡ true) × (p.asn ≡ v)
-listed_up [] v c = absurd (let lt = c.1 in omega (arith, lt))
-listed_up (x ∷ xs) v c = elim (cases_Bool x.up) [
-  | inl t ↦ elim (Contains-append_cases (x.asn ∷ []) (established_in xs) v (subst (λ (l : List ℕ). Contains l v) (cond-true x.up (x.asn ∷ established_in xs) (established_in xs) t) c)) [
-    | inl here ↦ (0, x, refl, t, only here.0 here.1 here.2)
-    | inr there ↦ let r = listed_up xs v there in (suc r.0, r.1, r.2, r.3, r.4)
-  ]
-  | inr f ↦ let r = listed_up xs v (subst (λ (l : List ℕ). Contains l v) (cond-false x.up (x.asn ∷ established_in xs) (established_in xs) f) c) in (suc r.0, r.1, r.2, r.3, r.4)
-]
-  where
-    only : (k : ℕ) → k < 1 → get_or (x.asn ∷ []) k v ≡ v → get_or (x.asn ∷ []) 0 0 ≡ v
-    only zero lt e = e
-    only (suc k) lt e = absurd (omega (arith, lt))
+listed_up = picked_from (λ p. p.up) (λ p. p.asn)
 
 -- the words say the same of peers with the same numbers
 pub says_numbers : (before after : List Peer) (q : PrefixView) (ws : List Word) → map (λ p. p.asn) before ≡ map (λ p. p.asn) after → says_in before q ws ≡ says_in after q ws
@@ -335,18 +292,16 @@ rises_view net router peers after rows k x at is = subst (λ (ps : List Peer). C
     lt = slice_get_within peers k x at
 
     new_to_old : (v : ℕ) → ((j : ℕ) × (p : Peer) × (slice_get turned_up j ≡ Some p) × (p.up ≡ true) × (p.asn ≡ v)) → (v ≡ x.asn) ⊎ Contains (established_in peers) v
-    new_to_old v h = elim (cases_order h.0 k) [
+    new_to_old v h = elim (same_or_apart h.0 k) [
       | inl same ↦ inl (sym h.4 ∙ ap (λ (p : Peer). p.asn) (some_of h.1 risen (sym h.2 ∙ ap (λ (n : ℕ). slice_get turned_up n) same ∙ set_here peers k risen lt)))
-      | inr differ ↦
-          let apart : h.0 ≢ k = λ e. elim differ [ inl l ↦ omega (arith, l, e) | inr m ↦ omega (arith, m, e) ] in
+      | inr apart ↦
           inr (subst (Contains (established_in peers)) h.4 (up_listed peers h.0 h.1 (sym (set_there peers k h.0 risen apart) ∙ h.2) h.3))
     ]
 
     old_to_new : (v : ℕ) → ((j : ℕ) × (p : Peer) × (slice_get peers j ≡ Some p) × (p.up ≡ true) × (p.asn ≡ v)) → Contains (established_in turned_up) v
-    old_to_new v h = elim (cases_order h.0 k) [
+    old_to_new v h = elim (same_or_apart h.0 k) [
       | inl same ↦ subst (Contains (established_in turned_up)) (sym (ap (λ (p : Peer). p.asn) (some_of h.1 x (sym h.2 ∙ ap (λ (n : ℕ). slice_get peers n) same ∙ at))) ∙ h.4) (up_listed turned_up k risen (set_here peers k risen lt) refl)
-      | inr differ ↦
-          let apart : h.0 ≢ k = λ e. elim differ [ inl l ↦ omega (arith, l, e) | inr m ↦ omega (arith, m, e) ] in
+      | inr apart ↦
           subst (Contains (established_in turned_up)) h.4 (up_listed turned_up h.0 h.1 (set_there peers k h.0 risen apart ∙ h.2) h.3)
     ]
 
@@ -360,8 +315,7 @@ module _ (net : Plan) (router : ℕ) (peers : List Peer) (keys : List PrefixView
           let r = row.1 in
           let size = long r (whole.each row.0 r row.2) in
           let lt = slice_get_within peers k x at in
-          ap (λ (p : PrefixView). word_of (said_in line peers (map (forgetting k) rows)) x.asn p) (sym row.3)
-          ∙ new_word net router peers keys rows whole (forgetting k) (λ s. refl) line row.0 k r x nothing row.2 at
+          new_word net router peers keys rows whole (forgetting k) (λ s. refl) line x.asn q row.0 k r x nothing row.2 row.3 at refl
           (ap (λ (ws : List Word). slice_get ws k) (emptied r) ∙ set_here (line r) k nothing (omega (arith, lt, size)))
     ];
     others = λ v q apart. same_word net router peers keys rows whole (forgetting k) (λ s. refl) line long v q (λ i j r p there is here e.
@@ -406,18 +360,16 @@ forgets_view net router peers after keys rows new whole k x at is are =
     same_numbers = map-set_same (λ (p : Peer). p.asn) peers k fallen x (sym (ap (λ (p : Peer). p.asn) (get_or_from_slice_get peers k x x at)))
 
     new_to_old : (v : ℕ) → ((j : ℕ) × (p : Peer) × (slice_get turned_down j ≡ Some p) × (p.up ≡ true) × (p.asn ≡ v)) → (v ≢ x.asn) × Contains (established_in peers) v
-    new_to_old v h = elim (cases_order h.0 k) [
+    new_to_old v h = elim (same_or_apart h.0 k) [
       | inl same ↦ absurd (false≢true (sym (ap (λ (p : Peer). p.up) (some_of h.1 fallen (sym h.2 ∙ ap (λ (n : ℕ). slice_get turned_down n) same ∙ set_here peers k fallen lt))) ∙ h.3))
-      | inr differ ↦
-          let apart : h.0 ≢ k = λ e. elim differ [ inl l ↦ omega (arith, l, e) | inr m ↦ omega (arith, m, e) ] in
+      | inr apart ↦
           let there = sym (set_there peers k h.0 fallen apart) ∙ h.2 in
           (λ e. apart (peer_once peers whole.apart h.0 k h.1 x there at (h.4 ∙ e)), subst (Contains (established_in peers)) h.4 (up_listed peers h.0 h.1 there h.3))
     ]
 
     old_to_new : (v : ℕ) → (v ≢ x.asn) → ((j : ℕ) × (p : Peer) × (slice_get peers j ≡ Some p) × (p.up ≡ true) × (p.asn ≡ v)) → Contains (established_in turned_down) v
-    old_to_new v other h = elim (cases_order h.0 k) [
+    old_to_new v other h = elim (same_or_apart h.0 k) [
       | inl same ↦ absurd (other (sym h.4 ∙ ap (λ (p : Peer). p.asn) (some_of h.1 x (sym h.2 ∙ ap (λ (n : ℕ). slice_get peers n) same ∙ at))))
-      | inr differ ↦
-          let apart : h.0 ≢ k = λ e. elim differ [ inl l ↦ omega (arith, l, e) | inr m ↦ omega (arith, m, e) ] in
+      | inr apart ↦
           subst (Contains (established_in turned_down)) h.4 (up_listed turned_down h.0 h.1 (set_there peers k h.0 fallen apart ∙ h.2) h.3)
     ]

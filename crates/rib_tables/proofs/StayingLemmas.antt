@@ -1,7 +1,6 @@
 -- Where a peer says another word that gives no better choice, and the kept path does not go on by the one before, the best stays.
-use Rattle.std.proofs.Common.{◌≡◌, ◌≢◌, ℕ, ◌<◌, true, false, List, [], ◌∷◌, length, set, drop, sym, ap, subst, ◌∙◌, arith, inl, inr, ◌⊎◌, Some}
+use Rattle.std.proofs.Common.{◌≡◌, ◌≢◌, ℕ, ◌<◌, true, false, List, [], ◌∷◌, length, set, drop, sym, ap, subst, ◌∙◌, inl, inr, ◌⊎◌, Some}
 use Rattle.std.specs.List.{slice_get}
-use Rattle.std.proofs.lemmas.Bool.{cases_order}
 use Rattle.std.proofs.lemmas.List.{length-set}
 use Rattle.std.proofs.lemmas.Option.{slice_get_within}
 use Rattle.prefix_lanes.specs.Bits.{PrefixView}
@@ -20,7 +19,7 @@ use Rattle.rib_tables.specs.Words.{path_in}
 use Rattle.rib_tables.specs.Choices.{IsChoice, IsFirstOrNone}
 use Rattle.rib_tables.specs.Rows.{RowHears, IsRow, IsRowBest, BestStays, StaysDecided, hearing}
 use Rattle.ranked_policy.proofs.OneTable.{table_stands}
-use Rattle.rib_tables.proofs.RowChoices.{some_of}
+use Rattle.rib_tables.proofs.RowChoices.{some_of, same_or_apart}
 use Rattle.rib_tables.proofs.RibLemmas.{set_here, set_there}
 
 -- the first stays where what is new is no better, and where the path by which it goes on is heard still
@@ -82,10 +81,9 @@ module _ (net : Plan) (router : ℕ) (peers : List Peer) (r : Row) (k : ℕ) (w 
         record { place = h.place; below = h.below; peer = h.peer; at = h.at; up = h.up; number = h.number; word = set_there r.heard k h.place w apart ∙ h.word }
 
     said_or_new : (v : ℕ) (p : List ℕ) → k < length r.heard → RowHears peers (set r.heard k w) n v p → RowHears peers r.heard n v p ⊎ (path_in w ≡ p)
-    said_or_new v p inside h = elim (cases_order h.place k) [
+    said_or_new v p inside h = elim (same_or_apart h.place k) [
       | inl same ↦ inr (ap path_in (some_of w (Sequence p) (sym (set_here r.heard k w inside) ∙ ap (λ (i : ℕ). slice_get (set r.heard k w) i) (sym same) ∙ h.word)))
-      | inr differ ↦
-          let apart : h.place ≢ k = λ e. elim differ [ inl less ↦ absurd (omega (arith, less, e)) | inr more ↦ absurd (omega (arith, more, e)) ] in
+      | inr apart ↦
           inl (record { place = h.place; below = h.below; peer = h.peer; at = h.at; up = h.up; number = h.number; word = sym (set_there r.heard k h.place w apart) ∙ h.word })
     ]
 
@@ -134,10 +132,9 @@ module _ (router : ℕ) (rows : List Row) (place : ℕ) (row : Row) (at : slice_
   changed = set rows place (hearing k w row)
 
   at_changed : (i : ℕ) (r : Row) → slice_get changed i ≡ Some r → ((i ≡ place) × (hearing k w row ≡ r)) ⊎ ((i ≢ place) × (slice_get rows i ≡ Some r))
-  at_changed i r there = elim (cases_order i place) [
+  at_changed i r there = elim (same_or_apart i place) [
     | inl same ↦ inl (same, some_of (hearing k w row) r (sym (set_here rows place (hearing k w row) (slice_get_within rows place row at)) ∙ ap (λ (j : ℕ). slice_get changed j) (sym same) ∙ there))
-    | inr differ ↦
-        let apart : i ≢ place = λ e. elim differ [ inl less ↦ absurd (omega (arith, less, e)) | inr more ↦ absurd (omega (arith, more, e)) ] in
+    | inr apart ↦
         inr (apart, sym (set_there rows place i (hearing k w row) apart) ∙ there)
   ]
 

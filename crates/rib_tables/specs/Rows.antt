@@ -34,13 +34,16 @@ said_in line peers (r ∷ rs) = says_in peers r.prefix (line r) ++ said_in line 
 abbrev pub kept_in : List Row → Paths
 kept_in rows = map (λ r. record { prefix = r.prefix; path = r.kept }) rows
 
+-- the values of the items that pass a test
+abbrev pub picked : {X Y : Type 0} → (X → Bool) → (X → Y) → List X → List Y
+picked test value [] = []
+picked test value (x ∷ xs) = if test x then value x ∷ picked test value xs else picked test value xs
+
 abbrev pub established_in : List Peer → List ℕ
-established_in [] = []
-established_in (p ∷ ps) = if p.up then p.asn ∷ established_in ps else established_in ps
+established_in peers = picked (λ p. p.up) (λ p. p.asn) peers
 
 abbrev pub originated_in : List Row → List PrefixView
-originated_in [] = []
-originated_in (r ∷ rs) = if r.originated then r.prefix ∷ originated_in rs else originated_in rs
+originated_in rows = picked (λ r. r.originated) (λ r. r.prefix) rows
 
 abbrev pub view_of : Plan → ℕ → List Peer → List Row → RibView
 view_of net router peers rows = record {

@@ -267,21 +267,6 @@ fn wait_anew(peers: &[Peer], row: &Row, place: usize, waits: &mut [PlaceSet])
     }
 }
 
-// Does what `wait_anew` does, for a `Vec`.
-pub(crate) fn wait_all(peers: &[Peer], row: &Row, place: usize, waits: &mut Vec<PlaceSet>)
-    requires place { place < MOST_PREFIXES }
-    requires len { length waits.old.items ≡ length peers.now }
-    requires sent { length row.now.sent ≡ length peers.now }
-    ensures len { length waits.new.items ≡ length waits.old.items }
-    ensures here { (k : ℕ) (p : Peer) (w : PlaceSet) → slice_get peers.now k ≡ Some p
-        → slice_get waits.new.items k ≡ Some w
-        → (has w place ≡ true ↔ ((p.up ≡ true) × (slice_get row.now.sent k ≢ Some (Sequence row.now.kept)))) }
-    ensures others { (k : ℕ) (w : PlaceSet) → slice_get waits.new.items k ≡ Some w
-        → (v : PlaceSet) × (slice_get waits.old.items k ≡ Some v) × ((i : ℕ) → i ≢ place → has w i ≡ has v i) }
-{
-    wait_anew(peers, row, place, waits.as_mut_slice());
-}
-
 // Does what `forget_words` does, for a `Vec`.
 pub(crate) fn forget_all(alloc: Global, rows: &mut Vec<Row>, dirty: &mut PlaceSet, peer: usize)
     requires few { length rows.old.items ≤ MOST_PREFIXES }
@@ -302,14 +287,32 @@ pub(crate) fn set_up(peers: &mut Vec<Peer>, place: usize, up: bool)
     peers[place].up = up;
 }
 
-// Keeps a path for the prefix at a place.
-pub(crate) fn keep_at(rows: &mut Vec<Row>, place: usize, path: Path)
-    requires { place < length rows.old.items }
-    ensures { (r : Row) → slice_get rows.old.items place ≡ Some r
+// Keeps a path for the prefix at a place, and sets which peers wait for it. Answers the prefix.
+pub(crate) fn keep_at(
+    peers: &[Peer],
+    rows: &mut Vec<Row>,
+    waits: &mut Vec<PlaceSet>,
+    place: usize,
+    path: Path,
+) -> Prefix
+    requires within { place < length rows.old.items }
+    requires place { place < MOST_PREFIXES }
+    requires len { length waits.old.items ≡ length peers.now }
+    requires sent { (r : Row) → slice_get rows.old.items place ≡ Some r → length r.sent ≡ length peers.now }
+    ensures prefix { (r : Row) → slice_get rows.old.items place ≡ Some r → result ≡ r.prefix }
+    ensures rows { (r : Row) → slice_get rows.old.items place ≡ Some r
         → rows.new.items ≡ slice_set rows.old.items place (keeping path r) }
+    ensures len { length waits.new.items ≡ length waits.old.items }
+    ensures here { (r : Row) (k : ℕ) (p : Peer) (w : PlaceSet) → slice_get rows.old.items place ≡ Some r
+        → slice_get peers.now k ≡ Some p → slice_get waits.new.items k ≡ Some w
+        → (has w place ≡ true ↔ ((p.up ≡ true) × (slice_get r.sent k ≢ Some (Sequence path)))) }
+    ensures others { (k : ℕ) (w : PlaceSet) → slice_get waits.new.items k ≡ Some w
+        → (v : PlaceSet) × (slice_get waits.old.items k ≡ Some v) × ((i : ℕ) → i ≢ place → has w i ≡ has v i) }
 {
     let row = &mut rows[place];
     row.kept = path;
+    wait_anew(peers, row, place, waits.as_mut_slice());
+    row.prefix
 }
 
 // Records the word sent to a peer for the prefix at a place.

@@ -1,6 +1,6 @@
 //! The routing tables of one router, and the calls that change them.
 
-ghost use Rattle.std.specs.Prelude.{◌≡◌, ◌≢◌, ◌↔◌, ℕ, true, false, map, slice_get, Some, IsTrue, IfOk, IfErr, IfSome, OnErr, OnOk, MatchOption};
+ghost use Rattle.std.specs.Prelude.{◌≡◌, ◌≢◌, ◌↔◌, ℕ, true, false, map, slice_get, Some, IsTrue, IfOk, IfErr, IfSome, OnErr, OnOk, MatchOption, if◌then◌else◌};
 ghost use Rattle.std.specs.List.{Contains};
 ghost use Rattle.ranked_policy.specs.Plans.{IsRouter, IsNamed, IsOrigin, Linked};
 ghost use Rattle.ranked_policy.specs.Peers.{peers};
@@ -14,7 +14,7 @@ ghost use Rattle.rib_tables.specs.Owners.{sources_of, IsSettled, IsServed, HasWa
 
 use crate::changes::{
     clear_all, forget_all, hear_path, hear_update, keep_at, mark_words, originate_at, place_of,
-    place_of_peer, set_up, tell_at, unadvertised, wait_after_all, wait_all,
+    place_of_peer, set_up, tell_at, unadvertised, wait_after_all,
 };
 use crate::opening::{keys_of, no_waits, peers_down, rows_of};
 use crate::place_set::PlaceSet;
@@ -107,14 +107,24 @@ impl<'a> Rib<'a> {
         place_of_peer(self.peers.as_slice(), peer).unwrap()
     }
 
+    // The word heard last from a peer for a prefix, or the one that was sent last. `None` exactly where it is the empty
+    // path.
+    fn word(&self, sent: bool, peer: Asn, prefix: &Prefix) -> Option<&Word>
+        ensures { let words = if sent then self.now.sent else self.now.heard in
+            MatchOption result (word_of words peer prefix.now ≡ nothing)
+            (λ word. (word.now ≡ word_of words peer prefix.now) × (word.now ≢ nothing)) }
+    {
+        let from = place_of_peer(self.peers.as_slice(), peer)?;
+        let place = place_of(&self.keys, prefix)?;
+        self.rows[place].line(sent).something(from)
+    }
+
     /// The word heard last from a peer for a prefix. `None` exactly where it is the empty path.
     pub fn word_heard(&self, peer: Asn, prefix: &Prefix) -> Option<&Word>
         ensures { MatchOption result (word_of self.now.heard peer prefix.now ≡ nothing)
             (λ word. (word.now ≡ word_of self.now.heard peer prefix.now) × (word.now ≢ nothing)) }
     {
-        let from = place_of_peer(self.peers.as_slice(), peer)?;
-        let place = place_of(&self.keys, prefix)?;
-        self.rows[place].heard.something(from)
+        self.word(false, peer, prefix)
     }
 
     /// The word sent last to a peer for a prefix. `None` exactly where it is the empty path.
@@ -122,9 +132,7 @@ impl<'a> Rib<'a> {
         ensures { MatchOption result (word_of self.now.sent peer prefix.now ≡ nothing)
             (λ word. (word.now ≡ word_of self.now.sent peer prefix.now) × (word.now ≢ nothing)) }
     {
-        let to = place_of_peer(self.peers.as_slice(), peer)?;
-        let place = place_of(&self.keys, prefix)?;
-        self.rows[place].sent.something(to)
+        self.word(true, peer, prefix)
     }
 
     /// The path that is kept for a prefix; the empty path if none is.
@@ -322,10 +330,9 @@ impl<'a> Rib<'a> {
         ensures { KeepsPath self.old self.new prefix.now path }
     {
         let place = place_of(&self.keys, prefix).unwrap();
-        keep_at(&mut self.rows, place, path);
         self.dirty.put(place);
         let peers = self.peers.as_slice();
-        wait_all(peers, &self.rows[place], place, &mut self.waits);
+        keep_at(peers, &mut self.rows, &mut self.waits, place, path);
     }
 
     /// Restarts: no path is kept then, and nothing is originated. It takes no memory.
@@ -358,12 +365,9 @@ impl<'a> Rib<'a> {
             (IsLeastWithout self.now.net.origins (IsSettled self.now)) }
     {
         let mut dirty = self.dirty;
-        let (place, _) = first_undecided(
-            self.router,
-            self.peers.as_slice(),
-            self.rows.as_slice(),
-            &mut dirty,
-        )?;
+        let peers = self.peers.as_slice();
+        let rows = self.rows.as_slice();
+        let (place, _) = first_undecided(self.router, peers, rows, &mut dirty)?;
         Some(self.rows[place].prefix)
     }
 
@@ -383,21 +387,16 @@ impl<'a> Rib<'a> {
         if self.dirty.is_empty() {
             return Ok(None);
         }
-        let found = first_undecided(
-            self.router,
-            self.peers.as_slice(),
-            self.rows.as_slice(),
-            &mut self.dirty,
-        );
+        let peers = self.peers.as_slice();
+        let rows = self.rows.as_slice();
+        let found = first_undecided(self.router, peers, rows, &mut self.dirty);
         let Some((place, way)) = found else {
             return Ok(None);
         };
         let best = path_along(alloc, self.router, way)?;
-        keep_at(&mut self.rows, place, best);
+        let prefix = keep_at(peers, &mut self.rows, &mut self.waits, place, best);
         self.dirty.take_out(place);
-        let row = &self.rows[place];
-        wait_all(self.peers.as_slice(), row, place, &mut self.waits);
-        Ok(Some(row.prefix))
+        Ok(Some(prefix))
     }
 
     /// The prefix that a peer waits for: the least of the network, by address and then by length, whose kept path is

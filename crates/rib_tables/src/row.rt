@@ -1,6 +1,6 @@
 //! The row of one prefix, and the entry of one peer.
 
-ghost use Rattle.std.specs.Prelude.{◌≡◌, ◌≢◌, ◌<◌, ◌≤◌, ◌↔◌, ◌⊎◌, ◌∷◌, ℕ, [], true, drop, length, slice_get, Some, IfOk, IfSome, IsTrue, MatchOption};
+ghost use Rattle.std.specs.Prelude.{◌≡◌, ◌≢◌, ◌<◌, ◌≤◌, ◌↔◌, ◌⊎◌, ◌∷◌, ℕ, [], true, drop, length, slice_get, Some, IfOk, IfSome, IsTrue, MatchOption, if◌then◌else◌};
 ghost use Rattle.prefix_lanes.specs.Bits.{PrefixView};
 ghost use Rattle.ranked_policy.specs.Choosing.{chosen_permits, chosen_prefers};
 ghost use Rattle.ranked_policy.specs.Plans.{Plan, IsNetwork, IsRouter};
@@ -45,6 +45,15 @@ pub struct Row<'a> {
     pub heard: Line,
     /// The words sent.
     pub sent: Line,
+}
+
+impl Row<'_> {
+    // The words sent, or those heard.
+    pub(crate) fn line(&self, sent: bool) -> &Line
+        ensures { result.now ≡ if sent then self.now.sent else self.now.heard }
+    {
+        if sent { &self.sent } else { &self.heard }
+    }
 }
 
 // Whether the path along `rest` is permitted, and either none was yet or it is preferred to the

@@ -1,41 +1,36 @@
-use Rattle.std.proofs.Common.{◌≡◌, ◌<◌, ℕ, List, length, set, subst, sym, ap, ◌∙◌, arith, rules}
+use Rattle.std.proofs.Common.{◌≡◌, ℕ, List, length, set, subst, sym, ap, ◌∙◌, arith, rules}
 use Rattle.std.specs.List.{slice_get}
-use Rattle.std.proofs.lemmas.Option.{slice_get_within}
 use Rattle.rib_tables.specs.declared.row.Peer.{Peer}
 use Rattle.rib_tables.specs.declared.row.Row.{Row}
 use Rattle.rib_tables.specs.Owners.{RibView, ComesUp}
 use Rattle.rib_tables.specs.Rows.{IsRib, MarksSpeaking, view_of}
-use Rattle.rib_tables.proofs.RibLemmas.{peer_at_place}
+use Rattle.rib_tables.proofs.RibLemmas.{peer_at_place, place_in}
 use Rattle.rib_tables.proofs.SessionLemmas.{rise_keeps_rib, rises_view}
 use Rattle.rib_tables.proofs.rib.Rib.come_up_at.Goals as goal
 
 pub mark_words-requires-clause-words : goal.mark_words-requires-clause-words
 mark_words-requires-clause-words c = λ i r at.
     let s = c.self.inside in
-    let here = peer_at_place s.network.now s.router s.peers.items s.keys.keys s.rows.items c.self.invariant.whole c.args.peer c.args.self.now c.self.view_is c.args.place c.requires.stands in
-    let lt = slice_get_within s.peers.items c.args.place here.0 here.1 in
+    let lt = place_in s.network.now s.router s.peers.items s.keys.keys s.rows.items c.self.invariant.whole c.args.peer c.args.self.now c.self.view_is c.args.place c.requires.stands in
     let size = (c.self.invariant.whole.each i r (ap (λ (rs : List Row). slice_get rs i) (sym c.as_slice.ensures.value) ∙ at)).heard in
     omega (arith, lt, size)
 
 pub set_up-requires : goal.set_up-requires
 set_up-requires c =
     let s = c.self.inside in
-    let here = peer_at_place s.network.now s.router s.peers.items s.keys.keys s.rows.items c.self.invariant.whole c.args.peer c.args.self.now c.self.view_is c.args.place c.requires.stands in
-    slice_get_within s.peers.items c.args.place here.0 here.1
+    place_in s.network.now s.router s.peers.items s.keys.keys s.rows.items c.self.invariant.whole c.args.peer c.args.self.now c.self.view_is c.args.place c.requires.stands
 
 pub unadvertised-requires-clause-words : goal.unadvertised-requires-clause-words
 unadvertised-requires-clause-words c = λ i r at.
     let s = c.self.inside in
-    let here = peer_at_place s.network.now s.router s.peers.items s.keys.keys s.rows.items c.self.invariant.whole c.args.peer c.args.self.now c.self.view_is c.args.place c.requires.stands in
-    let lt = slice_get_within s.peers.items c.args.place here.0 here.1 in
+    let lt = place_in s.network.now s.router s.peers.items s.keys.keys s.rows.items c.self.invariant.whole c.args.peer c.args.self.now c.self.view_is c.args.place c.requires.stands in
     let size = (c.self.invariant.whole.each i r (ap (λ (rs : List Row). slice_get rs i) (sym c.as_slice-2.ensures.value) ∙ at)).sent in
     omega (arith, lt, size)
 
 pub index_mut-requires : goal.index_mut-requires
 index_mut-requires c =
     let s = c.self.inside in
-    let here = peer_at_place s.network.now s.router s.peers.items s.keys.keys s.rows.items c.self.invariant.whole c.args.peer c.args.self.now c.self.view_is c.args.place c.requires.stands in
-    let lt : c.args.place < length s.peers.items = slice_get_within s.peers.items c.args.place here.0 here.1 in
+    let lt = place_in s.network.now s.router s.peers.items s.keys.keys s.rows.items c.self.invariant.whole c.args.peer c.args.self.now c.self.view_is c.args.place c.requires.stands in
     let long : length s.waits.items ≡ length s.peers.items = c.self.invariant.told.long in
     let len : length s.waits.items ≡ s.waits.len = search rules in
     omega (arith, lt, long, len)

@@ -1,10 +1,8 @@
-use Rattle.std.proofs.Common.{◌≡◌, ◌<◌, ℕ, List, length, set, subst, sym, ap, ◌∙◌, arith, rules}
-use Rattle.std.specs.List.{slice_get}
-use Rattle.std.proofs.lemmas.Option.{slice_get_within}
+use Rattle.std.proofs.Common.{◌≡◌, ℕ, List, length, set, subst, sym, arith, rules}
 use Rattle.rib_tables.specs.declared.row.Peer.{Peer}
 use Rattle.rib_tables.specs.Owners.{RibView, ForgetsPeer}
 use Rattle.rib_tables.specs.Rows.{IsRib, view_of}
-use Rattle.rib_tables.proofs.RibLemmas.{peer_at_place, fit_of}
+use Rattle.rib_tables.proofs.RibLemmas.{peer_at_place, place_in, fit_of}
 use Rattle.rib_tables.proofs.ChangeLemmas.{many}
 use Rattle.rib_tables.proofs.SessionLemmas.{forget_keeps_rib, forgets_view}
 use Rattle.rib_tables.proofs.rib.Rib.forget_at.Goals as goal
@@ -12,8 +10,7 @@ use Rattle.rib_tables.proofs.rib.Rib.forget_at.Goals as goal
 pub forget_all-requires-clause-words : goal.forget_all-requires-clause-words
 forget_all-requires-clause-words c = λ i r at.
     let s = c.self.inside in
-    let here = peer_at_place s.network.now s.router s.peers.items s.keys.keys s.rows.items c.self.invariant.whole c.args.peer c.args.self.now c.self.view_is c.args.place c.requires.stands in
-    let lt = slice_get_within s.peers.items c.args.place here.0 here.1 in
+    let lt = place_in s.network.now s.router s.peers.items s.keys.keys s.rows.items c.self.invariant.whole c.args.peer c.args.self.now c.self.view_is c.args.place c.requires.stands in
     let is = c.self.invariant.whole.each i r at in
     (let size = is.heard in omega (arith, lt, size), let size = is.sent in omega (arith, lt, size))
 
@@ -27,14 +24,12 @@ forget_all-requires-clause-few c =
 pub set_up-requires : goal.set_up-requires
 set_up-requires c =
     let s = c.self.inside in
-    let here = peer_at_place s.network.now s.router s.peers.items s.keys.keys s.rows.items c.self.invariant.whole c.args.peer c.args.self.now c.self.view_is c.args.place c.requires.stands in
-    slice_get_within s.peers.items c.args.place here.0 here.1
+    place_in s.network.now s.router s.peers.items s.keys.keys s.rows.items c.self.invariant.whole c.args.peer c.args.self.now c.self.view_is c.args.place c.requires.stands
 
 pub index_mut-requires : goal.index_mut-requires
 index_mut-requires c =
     let s = c.self.inside in
-    let here = peer_at_place s.network.now s.router s.peers.items s.keys.keys s.rows.items c.self.invariant.whole c.args.peer c.args.self.now c.self.view_is c.args.place c.requires.stands in
-    let lt : c.args.place < length s.peers.items = slice_get_within s.peers.items c.args.place here.0 here.1 in
+    let lt = place_in s.network.now s.router s.peers.items s.keys.keys s.rows.items c.self.invariant.whole c.args.peer c.args.self.now c.self.view_is c.args.place c.requires.stands in
     let long : length s.waits.items ≡ length s.peers.items = c.self.invariant.told.long in
     let len : length s.waits.items ≡ s.waits.len = search rules in
     omega (arith, lt, long, len)

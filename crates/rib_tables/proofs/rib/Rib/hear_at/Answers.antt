@@ -1,11 +1,9 @@
 use Rattle.std.proofs.Common.{ℕ, List, length, subst, sym, ap, ◌∙◌}
 use Rattle.rib_tables.specs.declared.place_set.PlaceSet.{PlaceSet}
-use Rattle.rib_tables.specs.declared.row.Peer.{Peer}
 use Rattle.rib_tables.specs.declared.row.Row.{Row}
-use Rattle.std.proofs.lemmas.Option.{slice_get_within}
 use Rattle.rib_tables.specs.Owners.{RibView, HearsUpdate}
 use Rattle.rib_tables.specs.Rows.{IsRib, view_of}
-use Rattle.rib_tables.proofs.RibLemmas.{fit_of, hear_keeps_rib, hears_view, peer_at_place}
+use Rattle.rib_tables.proofs.RibLemmas.{fit_of, hear_keeps_rib, hears_view, peer_at_place, place_in}
 use Rattle.rib_tables.proofs.BestLemmas.{on_refused}
 use Rattle.rib_tables.proofs.rib.Rib.hear_at.Goals as goal
 
@@ -29,8 +27,7 @@ invariant_of-self-2 c =
 pub hear_update-requires : goal.hear_update-requires
 hear_update-requires c =
     let s = c.self.inside in
-    let here = peer_at_place s.network.now s.router s.peers.items s.keys.keys s.rows.items c.self.invariant.whole c.args.peer c.args.self.now c.self.view_is c.args.place c.requires.stands in
-    (length s.peers.items, fit_of s.network.now s.router s.peers.items s.keys.keys s.rows.items c.self.invariant.whole, slice_get_within s.peers.items c.args.place here.0 here.1)
+    (length s.peers.items, fit_of s.network.now s.router s.peers.items s.keys.keys s.rows.items c.self.invariant.whole, place_in s.network.now s.router s.peers.items s.keys.keys s.rows.items c.self.invariant.whole c.args.peer c.args.self.now c.self.view_is c.args.place c.requires.stands)
 
 pub returns-clause-ok : goal.returns-clause-ok
 returns-clause-ok c =

@@ -1,4 +1,4 @@
-use Rattle.std.proofs.Common.{◌≡◌, ℕ, List, Some, subst, sym, ap, ◌∙◌}
+use Rattle.std.proofs.Common.{◌≡◌, List, Some, subst, sym, ap, ◌∙◌}
 use Rattle.std.specs.List.{slice_get}
 use Rattle.ranked_policy.specs.Peers.{peers}
 use Rattle.ranked_policy.specs.Plans.{Linked}

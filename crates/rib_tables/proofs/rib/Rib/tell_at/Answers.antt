@@ -1,12 +1,11 @@
-use Rattle.std.proofs.Common.{◌≡◌, ℕ, List, length, set, subst, sym, ap, ◌∙◌, arith, rules}
+use Rattle.std.proofs.Common.{◌≡◌, ℕ, List, length, set, subst, ap, ◌∙◌, arith, rules}
 use Rattle.std.proofs.lemmas.Option.{slice_get_within, get_or_from_slice_get}
 use Rattle.rib_tables.specs.declared.word.Word.TheVariants.{Sequence}
-use Rattle.rib_tables.specs.declared.row.Peer.{Peer}
 use Rattle.rib_tables.specs.declared.row.Row.{Row}
 use Rattle.rib_tables.specs.Owners.{RibView, TellsKept}
 use Rattle.rib_tables.specs.Rows.{telling, view_of}
 use Rattle.rib_tables.proofs.ChangeLemmas.{place_fits}
-use Rattle.rib_tables.proofs.RibLemmas.{fit_of, peer_at_place}
+use Rattle.rib_tables.proofs.RibLemmas.{fit_of, peer_at_place, place_in}
 use Rattle.rib_tables.proofs.DecidingLemmas.{read_at}
 use Rattle.rib_tables.proofs.OneRowLemmas.{key_at_place, row_at_place, tell_keeps_rib, tells_view}
 use Rattle.rib_tables.proofs.rib.Rib.tell_at.Goals as goal
@@ -28,16 +27,14 @@ tell_at-requires-clause-within c =
 pub tell_at-requires-clause-words : goal.tell_at-requires-clause-words
 tell_at-requires-clause-words c = λ r at.
     let s = c.self.inside in
-    let here = peer_at_place s.network.now s.router s.peers.items s.keys.keys s.rows.items c.self.invariant.whole c.args.peer c.args.self.now c.self.view_is c.args.place c.requires.stands in
-    let lt = slice_get_within s.peers.items c.args.place here.0 here.1 in
+    let lt = place_in s.network.now s.router s.peers.items s.keys.keys s.rows.items c.self.invariant.whole c.args.peer c.args.self.now c.self.view_is c.args.place c.requires.stands in
     let size = (c.self.invariant.whole.each c.args.at r at).sent in
     omega (arith, lt, size)
 
 pub index_mut-waiting-requires : goal.index_mut-waiting-requires
 index_mut-waiting-requires c =
     let s = c.self.inside in
-    let here = peer_at_place s.network.now s.router s.peers.items s.keys.keys s.rows.items c.self.invariant.whole c.args.peer c.args.self.now c.self.view_is c.args.place c.requires.stands in
-    let lt = slice_get_within s.peers.items c.args.place here.0 here.1 in
+    let lt = place_in s.network.now s.router s.peers.items s.keys.keys s.rows.items c.self.invariant.whole c.args.peer c.args.self.now c.self.view_is c.args.place c.requires.stands in
     let long = c.self.invariant.told.long in
     let len : length s.waits.items ≡ s.waits.len = search rules in
     omega (arith, lt, long, len)

@@ -6,7 +6,7 @@ use Rattle.rib_tables.specs.Least.{HoldsOfAll, IsLeastWithout}
 use Rattle.rib_tables.specs.Owners.{RibView, IsServed}
 use Rattle.rib_tables.specs.Rows.{view_of}
 use Rattle.rib_tables.proofs.ChangeLemmas.{key_at, within}
-use Rattle.rib_tables.proofs.RibLemmas.{peer_at_place}
+use Rattle.rib_tables.proofs.RibLemmas.{peer_at_place, place_in}
 use Rattle.rib_tables.proofs.OneRowLemmas.{place_at_key}
 use Rattle.rib_tables.proofs.DecidingLemmas.{read_at}
 use Rattle.rib_tables.proofs.AskingLemmas.{waits_for_none, waits_for_first}
@@ -15,8 +15,7 @@ use Rattle.rib_tables.proofs.rib.Rib.waiting_at.Goals as goal
 pub index-requires : goal.index-requires
 index-requires c =
     let s = c.self.inside in
-    let here = peer_at_place s.network.now s.router s.peers.items s.keys.keys s.rows.items c.self.invariant.whole c.args.peer c.args.self.now c.self.view_is c.args.place c.requires.stands in
-    let lt = slice_get_within s.peers.items c.args.place here.0 here.1 in
+    let lt = place_in s.network.now s.router s.peers.items s.keys.keys s.rows.items c.self.invariant.whole c.args.peer c.args.self.now c.self.view_is c.args.place c.requires.stands in
     let long = c.self.invariant.told.long in
     let len : length s.waits.items ≡ s.waits.len = search rules in
     omega (arith, lt, long, len)
