@@ -1,7 +1,8 @@
 -- What comes from a peer moves a side as its own events do.
-use Rattle.std.proofs.Common.{◌≡◌, ℕ, ◌==◌, Bool, true, false, cond, ◌&&◌, ◌||◌, List, [], ◌∷◌, Option, None, Some, refl, sym, ap, ◌∙◌, arith, inl, inr}
+use Rattle.std.proofs.Common.{◌≡◌, ℕ, ◌==◌, Bool, true, false, cond, ◌&&◌, ◌||◌, List, [], ◌∷◌, refl, sym, ap, ◌∙◌, arith, inl, inr}
 use Rattle.std.specs.Prelude.{nat_lt, Result, Ok, Err}
-use Rattle.std.proofs.lemmas.Bool.{ne_eqb}
+use Rattle.std.proofs.Math.Bool.{or-false}
+use Rattle.std.proofs.lemmas.Bool.{ne_eqb, false_from_ne_true}
 use Rattle.bgp_codec.specs.declared.message.Message.{Message}
 use Rattle.bgp_codec.specs.declared.message.Message.TheVariants.{OpenMsg, UpdateMsg, NoticeMsg, AliveMsg}
 use Rattle.bgp_codec.specs.declared.fault.Fault.{Fault}
@@ -19,9 +20,9 @@ use Rattle.session_fsm.specs.declared.event.FsmEvent.TheVariants as event
 use Rattle.session_fsm.specs.declared.actions.Action.{Action}
 use Rattle.session_fsm.specs.declared.actions.Action.TheVariants as action
 use Rattle.session_fsm.specs.Table.{SessionView, on_event}
-use Rattle.router_model.specs.Sides.{Side, Draft, AtHand, NoMessage, HasFault, HasUpdate, dials, apply_once, apply, apply_all, react, tells_fault, shuts, hangs_up, fits, react_to_sign, is_connecting, draft_sign, draft_message, event_of, at_hand, draft_of, acted_with, is_established, without_front, carried}
+use Rattle.router_model.specs.Sides.{Side, Draft, AtHand, NoMessage, HasFault, HasUpdate, dials, apply_once, apply, apply_all, react, tells_fault, hangs_up, fits, react_to_sign, is_connecting, draft_sign, draft_message, event_of, at_hand, draft_of, acted_with, is_established, without_front, carried}
 use Rattle.router_side.specs.Freshness.{is_opening, is_away, IsFresh, SignsKeepFresh, ActsWhereUp, MessagesKeepFresh}
-use Rattle.router_side.proofs.Fresh.{no_dial, acts_in, row, connects, quiet, Dialled, moves_dialled, number_by, Moves, comes_moves, keeps_fresh, not_onward, unsaid_on, unsaid_up}
+use Rattle.router_side.proofs.Fresh.{no_dial, acts_in, row, connects, given_keeps, shuts_keeps, quiet, Dialled, moves_dialled, number_by, Moves, comes_moves, keeps_fresh, not_onward, unsaid_on, unsaid_up}
 
 -- ---- a sign of the peer
 
@@ -69,30 +70,21 @@ answers_by o s l heard.Closed e w j h =
     let a = draft_of s.session l in
     moves_from s.session.state s.link l (react o NoMessage a event.TcpConnectionFails) e (comes_moves o NoMessage a event.TcpConnectionFails w (λ t. refl) h)
 
-dial_epoch : (l : LinkView) (n : ℕ) (b : Bool) → (cond b (record { epoch = l.epoch; heard = n; heard_is_shut = false; phase = phase_at_dial l.phase (n == l.epoch) }) l).epoch ≡ l.epoch
-dial_epoch l n true = refl
-dial_epoch l n false = refl
+-- what holds of both holds of either
+either_holds : {X : Type 0} (P : X → Type 0) (b : Bool) (x y : X) → P x → P y → P (cond b x y)
+either_holds {X} P true x y p q = p
+either_holds {X} P false x y p q = q
 
-shut_epoch : (l : LinkView) (b : Bool) → (cond b (record l { heard_is_shut = true }) l).epoch ≡ l.epoch
-shut_epoch l true = refl
-shut_epoch l false = refl
+abbrev dialled : LinkView → ℕ → LinkView
+dialled l n = record { epoch = l.epoch; heard = n; heard_is_shut = false; phase = phase_at_dial l.phase (n == l.epoch) }
 
 same_epoch : (l : LinkView) (x : Sign) → (heard_by l x).epoch ≡ l.epoch
-same_epoch l (sign.Dial n) = dial_epoch l n (nat_lt l.heard n)
-same_epoch l (sign.Shut n) = shut_epoch l (n == l.heard)
-
-dial_phase : (l : LinkView) (n : ℕ) (b : Bool) → l.phase ≡ Shut
-    → (cond b (record { epoch = l.epoch; heard = n; heard_is_shut = false; phase = phase_at_dial l.phase (n == l.epoch) }) l).phase ≡ Shut
-dial_phase l n true h = rw h refl
-dial_phase l n false h = h
-
-shut_phase : (l : LinkView) (b : Bool) → l.phase ≡ Shut → (cond b (record l { heard_is_shut = true }) l).phase ≡ Shut
-shut_phase l true h = h
-shut_phase l false h = h
+same_epoch l (sign.Dial n) = either_holds (λ (k : LinkView). k.epoch ≡ l.epoch) (nat_lt l.heard n) (dialled l n) l refl refl
+same_epoch l (sign.Shut n) = either_holds (λ (k : LinkView). k.epoch ≡ l.epoch) (n == l.heard) (record l { heard_is_shut = true }) l refl refl
 
 stays_shut : (l : LinkView) (x : Sign) → l.phase ≡ Shut → (heard_by l x).phase ≡ Shut
-stays_shut l (sign.Dial n) h = dial_phase l n (nat_lt l.heard n) h
-stays_shut l (sign.Shut n) h = shut_phase l (n == l.heard) h
+stays_shut l (sign.Dial n) h = let p : (dialled l n).phase ≡ Shut = rw h refl in either_holds (λ (k : LinkView). k.phase ≡ Shut) (nat_lt l.heard n) (dialled l n) l p h
+stays_shut l (sign.Shut n) h = either_holds (λ (k : LinkView). k.phase ≡ Shut) (n == l.heard) (record l { heard_is_shut = true }) l h h
 
 dial_joins : (b c d : Bool) (n : ℕ) → cond b (meaning_of_dial Shut c d n) heard.Quiet ≡ heard.Joined → ⊥
 dial_joins true c true n h = absurd cc
@@ -104,15 +96,11 @@ joins_shut : (l : LinkView) (x : Sign) → l.phase ≡ Shut → meaning_of l x �
 joins_shut l (sign.Dial n) p h = dial_joins (nat_lt l.heard n) (n == l.epoch) (nat_lt l.epoch n) n (rw p at h)
 joins_shut l (sign.Shut n) p h = (let k : heard.Quiet ≡ heard.Joined = rw p at h in absurd cc)
 
-is_false : (b : Bool) → (b ≡ true → ⊥) → b ≡ false
-is_false true n = absurd (n refl)
-is_false false n = refl
-
 pub signs_keep_fresh : SignsKeepFresh
 signs_keep_fresh o s x f h =
     keeps_fresh s (draft_sign o s x) f
     (answers_by o s (heard_by s.link x) (meaning_of s.link x) (same_epoch s.link x) (λ t. stays_shut s.link x (f.away t))
-    (λ j. is_false (is_away s.session.state) (λ t. joins_shut s.link x (f.away t) j)) h)
+    (λ j. false_from_ne_true (is_away s.session.state) (λ t. joins_shut s.link x (f.away t) j)) h)
 
 -- ---- a message or a fault that is handled
 
@@ -127,21 +115,14 @@ of_message event.UpdateMsg = true
 of_message event.UpdateMsgErr = true
 of_message _ = false
 
-notice_event : (b : Bool) → of_message (cond b event.NotifMsgVerErr event.NotifMsg) ≡ true
-notice_event true = refl
-notice_event false = refl
-
-fault_event : (b c : Bool) → of_message (cond b event.BgpHeaderErr (cond c event.BgpOpenMsgErr event.UpdateMsgErr)) ≡ true
-fault_event true c = refl
-fault_event false true = refl
-fault_event false false = refl
-
 is_of_message : (m : Result Message Fault) → of_message (event_of m) ≡ true
 is_of_message (Ok (OpenMsg x)) = refl
 is_of_message (Ok (UpdateMsg u)) = refl
-is_of_message (Ok (NoticeMsg n)) = notice_event ((n.code == 2) && (n.sub == 1))
+is_of_message (Ok (NoticeMsg n)) = either_holds (λ (e : FsmEvent). of_message e ≡ true) ((n.code == 2) && (n.sub == 1)) event.NotifMsgVerErr event.NotifMsg refl refl
 is_of_message (Ok AliveMsg) = refl
-is_of_message (Err f) = fault_event (f.code == 1) (f.code == 2)
+is_of_message (Err f) =
+    either_holds (λ (e : FsmEvent). of_message e ≡ true) (f.code == 1) event.BgpHeaderErr (cond (f.code == 2) event.BgpOpenMsgErr event.UpdateMsgErr) refl
+    (either_holds (λ (e : FsmEvent). of_message e ≡ true) (f.code == 2) event.BgpOpenMsgErr event.UpdateMsgErr refl refl)
 
 no_message_dials : (st : State) (a : SessionView) (e : FsmEvent) → of_message e ≡ true → no_dial (row st a e).actions ≡ true
 no_message_dials st a e h = grind arith
@@ -152,32 +133,19 @@ no_message_connects e h = grind arith
 acts_from : (st : State) (a : SessionView) (e : FsmEvent) → acts_in (row st a e).actions ≡ true → (st ≡ Established) × ((row st a e).session.state ≡ Established)
 acts_from st a e h = grind arith
 
-given_acts : (a : Draft) (g : AtHand) → (tells_fault a g).acts ≡ a.acts
-given_acts a NoMessage = refl
-given_acts a (HasFault f) = refl
-given_acts a (HasUpdate u) = refl
-
-shuts_acts : (a : Draft) (o : Option ℕ) → (shuts a o).acts ≡ a.acts
-shuts_acts a None = refl
-shuts_acts a (Some n) = refl
-
 or_true : (b : Bool) → (b || true) ≡ true
 or_true true = refl
 or_true false = refl
 
-or_false : (b : Bool) → (b || false) ≡ b
-or_false true = refl
-or_false false = refl
-
 acts_all : (o : Message) (g : AtHand) (a : Draft) (xs : List Action) → no_dial xs ≡ true → (apply_all o g a xs).acts ≡ (a.acts || acts_in xs)
 unfolding apply
-acts_all o g a [] n = sym (or_false a.acts)
+acts_all o g a [] n = sym (or-false a.acts)
 acts_all o g a (action.Dial ∷ xs) n = absurd cc
 acts_all o g a (action.SendOpen ∷ xs) n = acts_all o g (apply_once o g a action.SendOpen) xs n
 acts_all o g a (action.SendAlive ∷ xs) n = acts_all o g (apply_once o g a action.SendAlive) xs n
 acts_all o g a (action.SendNotice code ∷ xs) n = acts_all o g (apply_once o g a (action.SendNotice code)) xs n
-acts_all o g a (action.SendGiven ∷ xs) n = acts_all o g (tells_fault a g) xs n ∙ ap (λ (b : Bool). b || acts_in xs) (given_acts a g)
-acts_all o g a (action.HangUp ∷ xs) n = acts_all o g (hangs_up a) xs n ∙ ap (λ (b : Bool). b || acts_in xs) (shuts_acts a (number_shut a.link))
+acts_all o g a (action.SendGiven ∷ xs) n = acts_all o g (tells_fault a g) xs n ∙ ap (λ (b : Bool). b || acts_in xs) (given_keeps (λ (d : Draft). d.acts) a g (λ m. refl))
+acts_all o g a (action.HangUp ∷ xs) n = acts_all o g (hangs_up a) xs n ∙ ap (λ (b : Bool). b || acts_in xs) (shuts_keeps (λ (d : Draft). d.acts) a (number_shut a.link) (λ m. refl))
 acts_all o g a (action.Act ∷ xs) n = acts_all o g (apply_once o g a action.Act) xs n ∙ sym (or_true a.acts)
 acts_all o g a (action.Up ∷ xs) n = acts_all o g a xs n
 acts_all o g a (action.Down ∷ xs) n = acts_all o g (apply_once o g a action.Down) xs n

@@ -13,6 +13,7 @@ use Rattle.session_fsm.specs.declared.actions.Action.{Action}
 use Rattle.session_fsm.specs.declared.actions.Action.TheVariants as action
 use Rattle.session_fsm.specs.Table.{SessionView, Outcome, on_state, on_event}
 use Rattle.router_model.specs.Sides.{Draft, AtHand, NoMessage, HasFault, HasUpdate, apply_once, react_once, apply, apply_all, react, hangs_up, shuts, tells_fault, fits}
+use Rattle.bgp_codec.specs.declared.fault.Fault.{Fault}
 use Rattle.bgp_codec.specs.declared.update.Update.{Update}
 use Rattle.session_fsm.specs.Timers.{ticked, runs_out}
 use Rattle.router_model.specs.Sides.{Side, acted_with, is_established, is_up, draft_of, draft_event, draft_reset, draft_second, expires}
@@ -74,28 +75,15 @@ pub record Quiet (a b : Draft) (hung : Bool) : Type 0 where
   pub phase : hung ≡ true → b.link.phase ≡ Shut
   pub same : hung ≡ false → b.link.phase ≡ a.link.phase
 
-given_session : (a : Draft) (g : AtHand) → (tells_fault a g).session ≡ a.session
-given_session a NoMessage = refl
-given_session a (HasFault f) = refl
-given_session a (HasUpdate u) = refl
+-- a NOTIFICATION told and a Shut change nothing but what is appended
+pub given_keeps : {X : Type 0} (f : Draft → X) (a : Draft) (g : AtHand) → ((fault : Fault) → f (tells_fault a (HasFault fault)) ≡ f a) → f (tells_fault a g) ≡ f a
+given_keeps {X} f a NoMessage same = refl
+given_keeps {X} f a (HasFault fault) same = same fault
+given_keeps {X} f a (HasUpdate u) same = refl
 
-given_link : (a : Draft) (g : AtHand) → (tells_fault a g).link ≡ a.link
-given_link a NoMessage = refl
-given_link a (HasFault f) = refl
-given_link a (HasUpdate u) = refl
-
-given_overflows : (a : Draft) (g : AtHand) → (tells_fault a g).overflows ≡ a.overflows
-given_overflows a NoMessage = refl
-given_overflows a (HasFault f) = refl
-given_overflows a (HasUpdate u) = refl
-
-shuts_session : (a : Draft) (o : Option ℕ) → (shuts a o).session ≡ a.session
-shuts_session a None = refl
-shuts_session a (Some n) = refl
-
-shuts_overflows : (a : Draft) (o : Option ℕ) → (shuts a o).overflows ≡ a.overflows
-shuts_overflows a None = refl
-shuts_overflows a (Some n) = refl
+pub shuts_keeps : {X : Type 0} (f : Draft → X) (a : Draft) (o : Option ℕ) → ((n : ℕ) → f (shuts a (Some n)) ≡ f a) → f (shuts a o) ≡ f a
+shuts_keeps {X} f a None same = refl
+shuts_keeps {X} f a (Some n) same = same n
 
 quiet_on : (a b d : Draft) (hung : Bool) → b.session ≡ a.session → b.link ≡ a.link → b.overflows ≡ a.overflows → Quiet b d hung → Quiet a d hung
 quiet_on a b d hung s l o q = record {
@@ -118,14 +106,15 @@ quiet o g a (action.SendOpen ∷ xs) n = let b = apply_once o g a action.SendOpe
 quiet o g a (action.SendAlive ∷ xs) n = let b = apply_once o g a action.SendAlive in quiet_on a b (apply_all o g b xs) (hangs xs) refl refl refl (quiet o g b xs n)
 quiet o g a (action.SendNotice code ∷ xs) n = let b = apply_once o g a (action.SendNotice code) in quiet_on a b (apply_all o g b xs) (hangs xs) refl refl refl (quiet o g b xs n)
 quiet o g a (action.SendGiven ∷ xs) n =
-    let b = apply_once o g a action.SendGiven in quiet_on a b (apply_all o g b xs) (hangs xs) (given_session a g) (given_link a g) (given_overflows a g) (quiet o g b xs n)
+    let b = apply_once o g a action.SendGiven in
+    quiet_on a b (apply_all o g b xs) (hangs xs) (given_keeps (λ (d : Draft). d.session) a g (λ m. refl)) (given_keeps (λ (d : Draft). d.link) a g (λ m. refl)) (given_keeps (λ (d : Draft). d.overflows) a g (λ m. refl)) (quiet o g b xs n)
 quiet o g a (action.HangUp ∷ xs) n =
     let b = hangs_up a in
     let q = quiet o g b xs n in
     record {
-      session = q.session ∙ shuts_session a (number_shut a.link);
+      session = q.session ∙ shuts_keeps (λ (d : Draft). d.session) a (number_shut a.link) (λ m. refl);
       epoch = q.epoch;
-      overflows = q.overflows ∙ shuts_overflows a (number_shut a.link);
+      overflows = q.overflows ∙ shuts_keeps (λ (d : Draft). d.overflows) a (number_shut a.link) (λ m. refl);
       phase = λ h. still_shut b (apply_all o g b xs) (hangs xs) refl q;
       same = λ h. absurd cc;
     }
@@ -180,7 +169,7 @@ dial_again : (o : Message) (g : AtHand) (b : Draft) (xs : List Action) → xs �
 dial_again o g b xs is st h =
     let both : apply_all o g b xs ≡ apply o g (hangs_up b) action.Dial =
     ap (apply_all o g b) is ∙ ap (λ (w : Draft). apply o g w action.Dial) (hang_first o g b) in
-    let up : (hangs_up b).session.state ≡ Connect = ap (λ (w : SessionView). w.state) (shuts_session b (number_shut b.link)) ∙ st in
+    let up : (hangs_up b).session.state ≡ Connect = ap (λ (w : SessionView). w.state) (shuts_keeps (λ (d : Draft). d.session) b (number_shut b.link) (λ m. refl)) ∙ st in
     let d = dial_goes o g (hangs_up b) up (subst (λ (w : Draft). w.overflows ≡ false) both h) in
     subst (λ (w : Draft). Dialled b.link w) (sym both) (record { epoch = d.epoch; away = d.away })
 

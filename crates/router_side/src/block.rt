@@ -230,22 +230,14 @@ impl Block {
             Some(front) => {
                 let (_, rest) = self.octets.split_at(before);
                 outbox.push_parts(epoch, &front, rest);
-                let len = (FRONT + rest.len()) as u16;
-                self.places.push_reserved(Stored {
-                    epoch,
-                    len,
-                    short: true,
-                });
+                let (len, short) = ((FRONT + rest.len()) as u16, true);
+                self.places.push_reserved(Stored { epoch, len, short });
             }
             None => {
                 let (_, put) = self.octets.split_at(before);
                 outbox.push_octets(epoch, put);
-                let len = put.len() as u16;
-                self.places.push_reserved(Stored {
-                    epoch,
-                    len,
-                    short: false,
-                });
+                let (len, short) = (put.len() as u16, false);
+                self.places.push_reserved(Stored { epoch, len, short });
             }
         }
     }

@@ -68,11 +68,8 @@ impl Model for History {
 pub(crate) fn nobody(width: Width) -> Rule
     ensures { result ≡ nobody width }
 {
-    Rule {
-        width,
-        peer: None,
-        own: None,
-    }
+    let (peer, own) = (None, None);
+    Rule { width, peer, own }
 }
 
 impl History {
@@ -126,11 +123,8 @@ impl History {
         let by_places = self.last.count().saturating_mul(OCTETS_A_PLACE);
         let twice = self.last.len().max(by_places).saturating_mul(2);
         let more = twice.max(LEAST_MORE).min(MOST_MORE);
-        let next = Block::with_room(
-            alloc,
-            octets.saturating_add(more),
-            1 + more / OCTETS_A_PLACE,
-        )?;
+        let room = octets.saturating_add(more);
+        let next = Block::with_room(alloc, room, 1 + more / OCTETS_A_PLACE)?;
         if self.last.is_empty() {
             self.last = next;
             return Ok(());

@@ -1,30 +1,28 @@
-//! The message or fault in front of the octets of a peer, and the event that it brings.
+//! The message or fault of a frame, and the event that it brings.
 
-ghost use Rattle.std.specs.Prelude.{◌≡◌, true, Ok, Err, IfOk};
+ghost use Rattle.std.specs.Prelude.{◌≡◌, Ok, Err, IfOk};
 ghost use Rattle.bgp_codec.specs.declared.message.Message.TheVariants.{NoticeMsg};
 ghost use Rattle.bgp_codec.specs.Header.{IsFrame};
 ghost use Rattle.bgp_codec.specs.Faults.{reading};
 ghost use Rattle.bgp_codec.specs.Spelling.{IsWritable};
-ghost use Rattle.bgp_framing.specs.Held.{is_waiting};
 ghost use Rattle.session_fsm.specs.Table.{IsGoodEvent};
-ghost use Rattle.router_model.specs.Sides.{front, event_of, at_hand};
+ghost use Rattle.router_model.specs.Sides.{event_of, at_hand};
 ghost use Rattle.router_side.specs.Sayings.{told_of, IsSayableWhere};
 ghost use Rattle.router_side.specs.Drafts.{hand};
 
 use crate::brought::Brought;
 use crate::told_path::ToldPath;
 use bgp_codec::laws::{
-    fault_fits_a_message, header_fault_is_short, header_is_its_front, open_has_a_hold_time,
-    spelt_is_writable, written_has_a_header,
+    fault_fits_a_message, header_is_its_front, open_has_a_hold_time, spelt_is_writable,
+    written_has_a_header,
 };
 use bgp_codec::{CodecError, Fault, Message, Notice, Rule, decode};
-use bgp_framing::{Framer, Next};
 use bgp_values::{MESSAGE_HEADER_ERROR, OPEN_MESSAGE_ERROR, UNSUPPORTED_VERSION_NUMBER};
 use session_fsm::FsmEvent;
 use std::alloc::{AllocError, Global};
 
 // The message or fault of a frame, decoded.
-fn decode_frame(
+pub(crate) fn decode_frame(
     alloc: Global,
     frame: &[u8],
     rule: &Rule,
@@ -66,31 +64,6 @@ pub fn read_frame(
         }
     }
     decode_frame(alloc, frame, rule)
-}
-
-/// The message or fault in front of the octets held. It is refused only for want of memory.
-pub fn read_front(
-    alloc: Global,
-    framer: &Framer,
-    rule: &Rule,
-) -> Result<Result<Message, Fault>, AllocError>
-    requires { is_waiting framer.now.octets ≡ true }
-    ensures read { IfOk result (λ read. read ≡ front rule.now framer.now.octets) }
-    ensures good { IfOk result (λ read. IsGoodEvent (event_of read)) }
-    ensures told { IfOk result (λ read. IsSayableWhere rule.now.width (told_of (at_hand read))) }
-    ensures writable { IfOk result (λ read. IfOk read (IsWritable rule.now)) }
-{
-    header_is_its_front();
-    header_fault_is_short();
-    written_has_a_header();
-    match framer.next() {
-        Next::Whole(_, end) => {
-            let (frame, _) = framer.bytes().split_at(end);
-            decode_frame(alloc, frame, rule)
-        }
-        Next::More => unreachable!(),
-        Next::Bad(fault) => Ok(Err(fault)),
-    }
 }
 
 fn fault_event(fault: &Fault) -> FsmEvent

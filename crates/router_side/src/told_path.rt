@@ -314,11 +314,8 @@ impl ToldPath {
                 return Ok(None);
             }
             let path = read_numbers(alloc, width, told.numbers)?;
-            return Ok(Some(ToldPath {
-                id: told.id,
-                prefix: told.prefix,
-                path,
-            }));
+            let (id, prefix) = (told.id, told.prefix);
+            return Ok(Some(ToldPath { id, prefix, path }));
         }
         match withdrawn(frame) {
             Some(prefix) => Ok(Some(ToldPath::new(alloc, 0, &prefix, &[])?)),

@@ -42,11 +42,8 @@ impl SideEnd {
         ensures kept { OnErr result (KeepsRoom self.old self.new) }
     {
         let says = made.says.as_slice();
-        let octets = size_of_all(
-            says,
-            written_len(own_open, self.width),
-            size_told(given, self.width),
-        );
+        let own = written_len(own_open, self.width);
+        let octets = size_of_all(says, own, size_told(given, self.width));
         self.outbox.reserve(octets, says.len())?;
         self.acted.reserve(MESSAGE_LIMIT)?;
         Ok(())
@@ -72,14 +69,8 @@ impl SideEnd {
     {
         self.session = made.session;
         self.link = made.link;
-        append_all(
-            alloc,
-            self.width,
-            &mut self.outbox,
-            own_open,
-            told,
-            made.says.as_slice(),
-        );
+        let says = made.says.as_slice();
+        append_all(alloc, self.width, &mut self.outbox, own_open, told, says);
         if made.drops {
             self.framer.clear();
         }
@@ -119,13 +110,8 @@ impl SideEnd {
         ensures { side self.new
             ≡ carried (hand given) (without_front (side self.old)) (draft own_open.now (hand given) made.now) }
     {
-        count_front(
-            &mut self.acted,
-            &self.framer,
-            made.acts,
-            &given,
-            made.link.epoch(),
-        );
+        let epoch = made.link.epoch();
+        count_front(&mut self.acted, &self.framer, made.acts, &given, epoch);
         self.drop_front();
         let told = fault_notice(given);
         self.carry(alloc, own_open, &told, made);

@@ -11,9 +11,9 @@ ghost use Rattle.router_side.specs.Sayings.{told_of, IsSayableWhere};
 ghost use Rattle.router_side.specs.SideOf.{side};
 
 use super::SideEnd;
-use crate::reading::{read_frame, read_front};
+use crate::reading::{decode_frame, read_frame};
 use crate::told_path::ToldPath;
-use bgp_codec::laws::header_is_its_front;
+use bgp_codec::laws::{header_fault_is_short, header_is_its_front, written_has_a_header};
 use bgp_codec::{Asn, Fault, Message, Rule};
 use bgp_framing::Next;
 use std::alloc::{AllocError, Global};
@@ -39,7 +39,17 @@ impl SideEnd {
         ensures told { IfOk result (λ read. IsSayableWhere rule.now.width (told_of (at_hand read))) }
         ensures writable { IfOk result (λ read. IfOk read (IsWritable rule.now)) }
     {
-        read_front(alloc, &self.framer, rule)
+        header_is_its_front();
+        header_fault_is_short();
+        written_has_a_header();
+        match self.framer.next() {
+            Next::Whole(_, end) => {
+                let (frame, _) = self.framer.bytes().split_at(end);
+                decode_frame(alloc, frame, rule)
+            }
+            Next::More => unreachable!(),
+            Next::Bad(fault) => Ok(Err(fault)),
+        }
     }
 
     /// What [`SideEnd::front`] answers, for a caller that has not asked [`SideEnd::path_in_front`] before: a path
