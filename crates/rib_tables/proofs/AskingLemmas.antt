@@ -19,6 +19,7 @@ use Rattle.rib_tables.specs.Owners.{RibView, IsSettled, IsServed, HasWaitingPeer
 use Rattle.rib_tables.specs.Tables.{Words}
 use Rattle.rib_tables.specs.Rows.{IsRow, IsRib, said_in, AreDecided, AreJudged, AllBest, IsFirstUndecided, view_of}
 use Rattle.rib_tables.proofs.RibLemmas.{row_named}
+use Rattle.rib_tables.proofs.DecidingLemmas.{read_at}
 use Rattle.rib_tables.proofs.SessionLemmas.{listed_up}
 use Rattle.rib_tables.proofs.SeenLemmas.{all_rows, least_row, settled_seen, served_here, waits_here}
 
@@ -28,6 +29,10 @@ module _ (net : Plan) (router : ℕ) (peers : List Peer) (keys : List PrefixView
 
   pub judged : AreJudged net router peers rows
   judged = record { network = rib.whole.network; routers = rib.whole.routers; each = rib.whole.each }
+
+  -- the set of a peer that stands at a place
+  pub waits_at : (k : ℕ) (p : Peer) (w : PlaceSet) → slice_get peers k ≡ Some p → w ≡ get_or waits k w → slice_get waits k ≡ Some w
+  waits_at k p w there is = let lt = slice_get_within peers k p there in let long = rib.told.long in read_at waits k w (omega (arith, lt, long)) is
 
   -- ---- deciding
 

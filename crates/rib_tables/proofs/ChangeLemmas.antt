@@ -1,5 +1,5 @@
 -- Rows by their prefixes, and changes of them.
-use Rattle.std.proofs.Common.{◌≡◌, ◌≢◌, ℕ, zero, suc, ◌<◌, ◌+◌, Bool, true, false, ◌||◌, cond, List, [], ◌∷◌, ◌++◌, length, get_or, set, map, take, position, refl, sym, ap, subst, ◌∙◌, arith, inl, inr, Some, None, Option}
+use Rattle.std.proofs.Common.{◌≡◌, ◌≢◌, ℕ, zero, suc, ◌<◌, ◌+◌, Bool, true, false, ◌||◌, cond, List, [], ◌∷◌, ◌++◌, length, get_or, set, map, position, refl, sym, ap, subst, ◌∙◌, arith, inl, inr, Some, None, Option}
 use Rattle.std.specs.Prelude.{MatchOption}
 use Rattle.std.specs.List.{slice_get, AllPairs}
 use Rattle.std.proofs.lemmas.Bool.{cases_Bool, cases_order, both_ways, false_from_ne_true}
@@ -8,7 +8,7 @@ use Rattle.std.specs.List.{list_any, All}
 use Rattle.std.specs.Option.{is_some}
 use Rattle.std.specs.Option.{option_map}
 use Rattle.std.proofs.lemmas.List.{length-map, length-set, set-set, length-append, get_or_append_left}
-use Rattle.std.proofs.Math.Seq.{get_or-append_seam, take-append_seam}
+use Rattle.std.proofs.Math.Seq.{get_or-append_seam}
 use Rattle.std.proofs.lemmas.Bool.{cond-true, cond-false, or_left}
 use Rattle.std.proofs.Math.Bool.{or-false, or_assoc}
 use Rattle.std.proofs.lemmas.Option.{slice_get-get_or, slice_get_within, get_or_from_slice_get, slice_get_cases, slice_get-map}
@@ -172,9 +172,6 @@ module _ (k : ℕ) (w : Word) where
     | inr n ↦ ap f (cond-false (lists ps r.prefix) (hearing k w r) r n)
   ]
 
-pub as_many : {X : Type 0} (f : X → X) (old new : List X) → new ≡ map f old → length new ≡ length old
-as_many {X} f old new is = ap (λ (xs : List X). length xs) is ∙ length-map old f
-
 -- where each row of a changed list comes from
 pub from_map : {X Y : Type 0} (f : X → Y) (xs : List X) (i : ℕ) (y : Y) → slice_get (map f xs) i ≡ Some y → (x : X) × (slice_get xs i ≡ Some x) × (y ≡ f x)
 from_map {X} {Y} f xs i y at =
@@ -217,14 +214,15 @@ module _ (a : Word) (ws front : List Word) (w : Word) (is : ws ≡ front ++ w �
   pub front_of : All (λ one. one ≡ a) front
   front_of = λ k d lt. sym (get_or_append_left front (w ∷ []) d k lt) ∙ ap (λ (xs : List Word). get_or xs k d) (sym is) ∙ all k d (omega (arith, size, lt))
 
--- a whole list that is written back over one of its length
-pub written_back : {X : Type 0} (n : ℕ) (new rest : List X) → length new ≡ n → take n (new ++ rest) ≡ new
-written_back {X} n new rest e = ap (λ (m : ℕ). take m (new ++ rest)) (sym e) ∙ take-append_seam new rest
+-- lists whose items are the same after these changes, place by place
+pub maps_by_places : {X Y Z : Type 0} (f : X → Z) (g : Y → Z) (xs : List X) (ys : List Y) → length xs ≡ length ys → ((i : ℕ) (x : X) (y : Y) → slice_get xs i ≡ Some x → slice_get ys i ≡ Some y → f x ≡ g y) → map f xs ≡ map g ys
+maps_by_places {X} {Y} {Z} f g [] [] size each = refl
+maps_by_places {X} {Y} {Z} f g [] (y ∷ ys) size each = absurd (omega (arith, size))
+maps_by_places {X} {Y} {Z} f g (x ∷ xs) [] size each = absurd (omega (arith, size))
+maps_by_places {X} {Y} {Z} f g (x ∷ xs) (y ∷ ys) size each =
+    ap (λ (z : Z). z ∷ map f xs) (each 0 x y refl refl) ∙ ap (λ (zs : List Z). g y ∷ zs) (maps_by_places f g xs ys (omega (arith, size)) (λ i a b at there. each (suc i) a b at there))
 
--- a list whose items are those of another after a change, place by place
+-- a list whose items are those of another after a change
 pub map_by_places : {X : Type 0} (f : X → X) (old new : List X) → length new ≡ length old → ((i : ℕ) (x : X) → slice_get old i ≡ Some x → slice_get new i ≡ Some (f x)) → new ≡ map f old
-map_by_places {X} f [] [] size each = refl
-map_by_places {X} f [] (y ∷ ys) size each = absurd (omega (arith, size))
-map_by_places {X} f (x ∷ xs) [] size each = absurd (omega (arith, size))
-map_by_places {X} f (x ∷ xs) (y ∷ ys) size each =
-    ap (λ (z : X). z ∷ ys) (some_of y (f x) (each 0 x refl)) ∙ ap (λ (zs : List X). f x ∷ zs) (map_by_places f xs ys (omega (arith, size)) (λ i z at. each (suc i) z at))
+map_by_places {X} f old new size each =
+    sym (maps_by_places f (λ (x : X). x) old new (sym size) (λ i x y at there. some_of (f x) y (sym (each i x at) ∙ there)) ∙ map_same (λ (x : X). x) (λ x. refl) new)

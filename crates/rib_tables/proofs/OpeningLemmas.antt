@@ -23,7 +23,7 @@ use Rattle.rib_tables.specs.Rows.{IsRow, AreRows, IsRowBest, IsRib, IsFresh, Are
 use Rattle.rib_tables.proofs.WordLemmas.{is_prefix-true}
 use Rattle.ranked_policy.proofs.OneTable.{one_table}
 use Rattle.rib_tables.proofs.RowChoices.{some_of}
-use Rattle.rib_tables.proofs.ChangeLemmas.{from_map, to_map, each_passes, within}
+use Rattle.rib_tables.proofs.ChangeLemmas.{from_map, to_map, maps_by_places, each_passes, within}
 use Rattle.rib_tables.proofs.ViewLemmas.{peer_or_not, no_row, no_peer}
 use Rattle.rib_tables.proofs.RibLemmas.{before_apart, row_or_not, old_word}
 use Rattle.rib_tables.proofs.SessionLemmas.{listed_up}
@@ -69,13 +69,6 @@ fresh_push origins table n listed rows i o r long lt is fresh each k p s at ther
 ]
 
 -- ---- all of it
-
-maps_by_places : {X Y Z : Type 0} (f : X → Z) (g : Y → Z) (xs : List X) (ys : List Y) → length xs ≡ length ys → ((i : ℕ) (x : X) (y : Y) → slice_get xs i ≡ Some x → slice_get ys i ≡ Some y → f x ≡ g y) → map f xs ≡ map g ys
-maps_by_places {X} {Y} {Z} f g [] [] size each = refl
-maps_by_places {X} {Y} {Z} f g [] (y ∷ ys) size each = absurd (omega (arith, size))
-maps_by_places {X} {Y} {Z} f g (x ∷ xs) [] size each = absurd (omega (arith, size))
-maps_by_places {X} {Y} {Z} f g (x ∷ xs) (y ∷ ys) size each =
-    ap (λ (z : Z). z ∷ map f xs) (each 0 x y refl refl) ∙ ap (λ (zs : List Z). g y ∷ zs) (maps_by_places f g xs ys (omega (arith, size)) (λ i a b at there. each (suc i) a b at there))
 
 abbrev down : ℕ → Peer
 down number = record { asn = number; up = false }

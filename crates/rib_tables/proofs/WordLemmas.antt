@@ -1,16 +1,15 @@
 -- Prefixes by a test, and words by their look-up.
-use Rattle.std.proofs.Common.{◌≡◌, ℕ, Bool, true, false, cond, List, [], ◌∷◌, ◌++◌, refl, sym, ap, subst, ◌∙◌, inl, inr}
+use Rattle.std.proofs.Common.{◌≡◌, ℕ, Bool, true, false, List, ◌∷◌, refl, ap, ◌∙◌}
 use Rattle.std.specs.Prelude.{◌==◌}
 use Rattle.std.specs.Bool.{Decides}
-use Rattle.std.specs.List.{AllByRecursion, Contains, filter}
-use Rattle.std.proofs.lemmas.Bool.{cases_Bool, both_ways, and_parts, and_from, eq-eqb, eqb-true, cond-true, cond-false, false_from_ne_true}
+use Rattle.std.specs.List.{Contains}
+use Rattle.std.proofs.lemmas.Bool.{and_parts, and_from, eq-eqb, eqb-true, cond-true, cond-false, false_from_ne_true}
 use Rattle.std.proofs.lemmas.Bool.Decides.{Decides-by_or, Decides-or}
 use Rattle.std.proofs.lemmas.List.Elements.{Decides-contains}
 use Rattle.prefix_lanes.specs.Bits.{PrefixView, is_prefix}
 use Rattle.bgp_codec.specs.declared.update.Update.{Update}
-use Rattle.rib_tables.specs.declared.word.Word.{Word}
 use Rattle.rib_tables.specs.Tables.{Said}
-use Rattle.rib_tables.specs.Words.{nothing, Mentions, lists, mentions}
+use Rattle.rib_tables.specs.Words.{Mentions, lists, mentions}
 use Rattle.rib_tables.specs.Tables.{Words, is_of, word_of}
 
 -- ---- prefixes
@@ -44,25 +43,6 @@ is_of-true s peer q t =
     (eqb-true s.peer peer parts.0, is_prefix-true s.prefix q parts.1)
 
 module _ (peer : ℕ) (q : PrefixView) where
-  -- none of these is the word of the peer for the prefix
-  abbrev pub Absent : Words → Type 0
-  Absent words = AllByRecursion (λ (s : Said). is_of s peer q ≡ false) words
-
-  pub word_of-absent : (xs : Words) → Absent xs → word_of xs peer q ≡ nothing
-  unfolding word_of
-  word_of-absent [] a = refl
-  word_of-absent (s ∷ xs) a = cond-false (is_of s peer q) s.word (word_of xs peer q) a.0 ∙ word_of-absent xs a.1
-
-  pub word_of-append_left : (xs ys : Words) → Absent ys → word_of (xs ++ ys) peer q ≡ word_of xs peer q
-  unfolding word_of
-  word_of-append_left [] ys a = word_of-absent ys a
-  word_of-append_left (s ∷ xs) ys a = ap (λ (w : Word). cond (is_of s peer q) s.word w) (word_of-append_left xs ys a)
-
-  pub word_of-append_right : (xs ys : Words) → Absent xs → word_of (xs ++ ys) peer q ≡ word_of ys peer q
-  unfolding word_of
-  word_of-append_right [] ys a = refl
-  word_of-append_right (s ∷ xs) ys a = cond-false (is_of s peer q) s.word (word_of (xs ++ ys) peer q) a.0 ∙ word_of-append_right xs ys a.1
-
   pub word_of-first : (s : Said) (xs : Words) → is_of s peer q ≡ true → word_of (s ∷ xs) peer q ≡ s.word
   unfolding word_of
   word_of-first s xs t = cond-true (is_of s peer q) s.word (word_of xs peer q) t
@@ -70,30 +50,3 @@ module _ (peer : ℕ) (q : PrefixView) where
   pub word_of-next : (s : Said) (xs : Words) → is_of s peer q ≡ false → word_of (s ∷ xs) peer q ≡ word_of xs peer q
   unfolding word_of
   word_of-next s xs f = cond-false (is_of s peer q) s.word (word_of xs peer q) f
-
-  module _ (keep : Said → Bool) where
-    -- where a filter lets the words of the peer for the prefix pass, they are as they were
-    pub word_of-filter : ((s : Said) → is_of s peer q ≡ true → keep s ≡ true) → (xs : Words) → word_of (filter keep xs) peer q ≡ word_of xs peer q
-    word_of-filter kept [] = refl
-    word_of-filter kept (s ∷ xs) =
-        let both = filter keep xs in
-        elim (cases_Bool (is_of s peer q)) [
-          | inl t ↦
-              ap (λ (ys : Words). word_of ys peer q) (cond-true (keep s) (s ∷ both) both (kept s t)) ∙ word_of-first s both t ∙ sym (word_of-first s xs t)
-          | inr f ↦ elim (cases_Bool (keep s)) [
-            | inl k ↦ ap (λ (ys : Words). word_of ys peer q) (cond-true (keep s) (s ∷ both) both k) ∙ word_of-next s both f ∙ word_of-filter kept xs ∙ sym (word_of-next s xs f)
-            | inr k ↦ ap (λ (ys : Words). word_of ys peer q) (cond-false (keep s) (s ∷ both) both k) ∙ word_of-filter kept xs ∙ sym (word_of-next s xs f)
-          ]
-        ]
-
-    -- where it lets none pass, none is left
-    pub absent-filter : ((s : Said) → is_of s peer q ≡ true → keep s ≡ false) → (xs : Words) → Absent (filter keep xs)
-    absent-filter gone [] = tt
-    absent-filter gone (s ∷ xs) =
-        let rest = filter keep xs in
-        elim (cases_Bool (keep s)) [
-          | inl k ↦
-              subst Absent (sym (cond-true (keep s) (s ∷ rest) rest k))
-              (false_from_ne_true (is_of s peer q) (λ t. both_ways (keep s) (gone s t) k), absent-filter gone xs)
-          | inr k ↦ subst Absent (sym (cond-false (keep s) (s ∷ rest) rest k)) (absent-filter gone xs)
-        ]

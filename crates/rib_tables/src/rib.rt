@@ -140,7 +140,7 @@ impl<'a> Rib<'a> {
         ensures { result.now ≡ path_of self.now.kept prefix.now }
     {
         match place_of(&self.keys, prefix) {
-            Some(place) => self.rows[place].kept.as_slice(),
+            Some(place) => self.path_at(place, prefix),
             None => &[],
         }
     }
@@ -158,7 +158,7 @@ impl<'a> Rib<'a> {
         ensures { IsTrue result ↔ Contains self.now.originated prefix.now }
     {
         match place_of(&self.keys, prefix) {
-            Some(place) => self.rows[place].originated,
+            Some(place) => self.is_originated_at(place, prefix),
             None => false,
         }
     }
@@ -191,15 +191,9 @@ impl<'a> Rib<'a> {
         ensures err { OnErr result (self.new ≡ self.old) }
     {
         let alloc = *self.peers.allocator();
-        hear_update(
-            alloc,
-            self.router,
-            &self.keys,
-            &mut self.rows,
-            &mut self.dirty,
-            place,
-            update,
-        )?;
+        let rows = &mut self.rows;
+        let dirty = &mut self.dirty;
+        hear_update(alloc, self.router, &self.keys, rows, dirty, place, update)?;
         Ok(())
     }
 
@@ -219,16 +213,10 @@ impl<'a> Rib<'a> {
         ensures err { OnErr result (self.new ≡ self.old) }
     {
         let alloc = *self.peers.allocator();
-        hear_path(
-            alloc,
-            self.router,
-            &self.keys,
-            &mut self.rows,
-            &mut self.dirty,
-            place,
-            prefix,
-            path,
-        )?;
+        let keys = &self.keys;
+        let rows = &mut self.rows;
+        let dirty = &mut self.dirty;
+        hear_path(alloc, self.router, keys, rows, dirty, place, prefix, path)?;
         Ok(())
     }
 

@@ -1,4 +1,4 @@
-use Rattle.std.proofs.Common.{List, ◌∷◌, length, subst, sym, ap, ◌∙◌}
+use Rattle.std.proofs.Common.{◌<◌, List, ◌∷◌, length, subst, sym, ap, ◌∙◌}
 use Rattle.std.specs.List.{slice_get}
 use Rattle.prefix_lanes.specs.Bits.{PrefixView}
 use Rattle.rib_tables.specs.declared.row.Peer.{Peer}
@@ -8,6 +8,16 @@ use Rattle.rib_tables.specs.Rows.{view_of}
 use Rattle.rib_tables.proofs.AskingLemmas.{all_settled, first_unsettled}
 use Rattle.rib_tables.proofs.BestLemmas.{if_refused, left_rib, found_all, found_first, found_best, place_below, best_keeps_rib, best_view}
 use Rattle.rib_tables.proofs.rib.Rib.decide.Goals as goal
+use Rattle.rib_tables.proofs.rib.Rib.decide.Goals.{In-Some}
+
+-- the place is one of a row
+below : (c : In-Some) → (c.in-Some.place < length c.self.inside.rows.items) × (c.in-Some.place < 256)
+below c =
+    let s = c.self.inside in
+    let net = s.network.now in
+    let place = c.in-Some.place in
+    let first = found_first net s.router s.peers.items s.keys.keys s.rows.items s.dirty s.waits.items c.self.invariant c.as_slice-peers.result.now c.as_slice-rows.result.now c.as_slice-peers.ensures.value c.as_slice-rows.ensures.value place (c.in-Some.ensures.least net) in
+    place_below net s.router s.peers.items s.keys.keys s.rows.items s.dirty s.waits.items c.self.invariant place first.row first.at
 
 pub returns-then-is_empty-clause-least : goal.returns-then-is_empty-clause-least
 returns-then-is_empty-clause-least c =
@@ -48,20 +58,10 @@ returns-in_err-best-clause-pending c =
     )
 
 pub keep_at-prefix-requires-clause-within : goal.keep_at-prefix-requires-clause-within
-keep_at-prefix-requires-clause-within c =
-    let s = c.self.inside in
-    let net = s.network.now in
-    let place = c.in-Some.place in
-    let first = found_first net s.router s.peers.items s.keys.keys s.rows.items s.dirty s.waits.items c.self.invariant c.as_slice-peers.result.now c.as_slice-rows.result.now c.as_slice-peers.ensures.value c.as_slice-rows.ensures.value place (c.in-Some.ensures.least net) in
-    (place_below net s.router s.peers.items s.keys.keys s.rows.items s.dirty s.waits.items c.self.invariant place first.row first.at).0
+keep_at-prefix-requires-clause-within c = (below (goal.at.keep_at-prefix-requires-clause-within c).In-Some).0
 
 pub keep_at-prefix-requires-clause-place : goal.keep_at-prefix-requires-clause-place
-keep_at-prefix-requires-clause-place c =
-    let s = c.self.inside in
-    let net = s.network.now in
-    let place = c.in-Some.place in
-    let first = found_first net s.router s.peers.items s.keys.keys s.rows.items s.dirty s.waits.items c.self.invariant c.as_slice-peers.result.now c.as_slice-rows.result.now c.as_slice-peers.ensures.value c.as_slice-rows.ensures.value place (c.in-Some.ensures.least net) in
-    (place_below net s.router s.peers.items s.keys.keys s.rows.items s.dirty s.waits.items c.self.invariant place first.row first.at).1
+keep_at-prefix-requires-clause-place c = (below (goal.at.keep_at-prefix-requires-clause-place c).In-Some).1
 
 pub keep_at-prefix-requires-clause-sent : goal.keep_at-prefix-requires-clause-sent
 keep_at-prefix-requires-clause-sent c =
@@ -69,12 +69,7 @@ keep_at-prefix-requires-clause-sent c =
     λ r at. (c.self.invariant.whole.each c.in-Some.place r at).sent ∙ ap (λ (ps : List Peer). length ps) (sym c.as_slice-peers.ensures.value)
 
 pub take_out-requires : goal.take_out-requires
-take_out-requires c =
-    let s = c.self.inside in
-    let net = s.network.now in
-    let place = c.in-Some.place in
-    let first = found_first net s.router s.peers.items s.keys.keys s.rows.items s.dirty s.waits.items c.self.invariant c.as_slice-peers.result.now c.as_slice-rows.result.now c.as_slice-peers.ensures.value c.as_slice-rows.ensures.value place (c.in-Some.ensures.least net) in
-    (place_below net s.router s.peers.items s.keys.keys s.rows.items s.dirty s.waits.items c.self.invariant place first.row first.at).1
+take_out-requires c = (below (goal.at.take_out-requires c).In-Some).1
 
 pub invariant_of-self-2 : goal.invariant_of-self-2
 invariant_of-self-2 c =

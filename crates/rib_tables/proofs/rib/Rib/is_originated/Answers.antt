@@ -1,26 +1,15 @@
-use Rattle.std.proofs.Common.{◌≡◌, subst, sym, ◌∙◌}
-use Rattle.std.specs.Prelude.{◌↔◌, IsTrue}
-use Rattle.std.specs.List.{Contains}
-use Rattle.std.proofs.lemmas.Option.{get_or_from_slice_get}
-use Rattle.prefix_lanes.specs.Bits.{PrefixView}
-use Rattle.rib_tables.specs.declared.row.Row.{Row}
+use Rattle.std.proofs.Common.{Some, map, ◌≡◌, subst, sym}
+use Rattle.std.specs.List.{slice_get, Contains}
 use Rattle.rib_tables.specs.Owners.{RibView}
-use Rattle.rib_tables.specs.Rows.{originated_in}
-use Rattle.rib_tables.proofs.ChangeLemmas.{row_at}
-use Rattle.rib_tables.proofs.SeenLemmas.{originated_here, listed_originated}
-use Rattle.rib_tables.proofs.OneRowLemmas.{key_none}
+use Rattle.rib_tables.proofs.SeenLemmas.{listed_originated}
+use Rattle.rib_tables.proofs.OneRowLemmas.{key_none, place_at_key}
 use Rattle.rib_tables.proofs.rib.Rib.is_originated.Goals as goal
 
-pub returns-in-Some : goal.returns-in-Some
-returns-in-Some c =
+pub is_originated_at-requires : goal.is_originated_at-requires
+is_originated_at-requires c =
     let s = c.self.inside in
-    let q = c.args.prefix.now in
-    let x = row_at s.keys.keys s.rows.items c.self.invariant.whole.listed c.in-Some.place q c.in-Some.ensures in
-    let row : c.index.result.now ≡ x.0 = c.index.ensures ∙ get_or_from_slice_get s.rows.items c.in-Some.place x.0 c.index.result.now x.1 in
-    subst (λ (v : RibView). IsTrue c.index.result.now.originated ↔ Contains v.originated q) c.self.view_is
-    (subst (λ (r : Row). IsTrue r.originated ↔ Contains (originated_in s.rows.items) q) (sym row)
-    (subst (λ (p : PrefixView). IsTrue x.0.originated ↔ Contains (originated_in s.rows.items) p) x.2
-    (originated_here s.network.now s.router s.peers.items s.keys.keys s.rows.items c.self.invariant.whole c.in-Some.place x.0 x.1)))
+    let stands = place_at_key s.network.now s.router s.peers.items s.keys.keys s.rows.items c.self.invariant.whole c.args.prefix.now c.in-Some.place c.in-Some.ensures in
+    record { stands = subst (λ (v : RibView). slice_get (map (λ o. o.prefix) v.net.origins) c.in-Some.place ≡ Some c.args.prefix.now) c.self.view_is stands }
 
 pub returns-in-None : goal.returns-in-None
 returns-in-None c =

@@ -1,21 +1,16 @@
-use Rattle.std.proofs.Common.{◌≡◌, List, [], ℕ, subst, sym, ap, ◌∙◌}
-use Rattle.std.proofs.lemmas.Option.{get_or_from_slice_get}
-use Rattle.rib_tables.specs.declared.row.Row.{Row}
+use Rattle.std.proofs.Common.{Some, map, ◌≡◌, List, [], ℕ, subst, sym}
+use Rattle.std.specs.List.{slice_get}
 use Rattle.rib_tables.specs.Tables.{path_of}
 use Rattle.rib_tables.specs.Owners.{RibView}
-use Rattle.rib_tables.proofs.ChangeLemmas.{row_at}
-use Rattle.rib_tables.proofs.SeenLemmas.{once, kept_at, no_kept}
-use Rattle.rib_tables.proofs.OneRowLemmas.{key_none}
+use Rattle.rib_tables.proofs.SeenLemmas.{no_kept}
+use Rattle.rib_tables.proofs.OneRowLemmas.{key_none, place_at_key}
 use Rattle.rib_tables.proofs.rib.Rib.path.Goals as goal
 
-pub returns-in-Some : goal.returns-in-Some
-returns-in-Some c =
+pub path_at-requires : goal.path_at-requires
+path_at-requires c =
     let s = c.self.inside in
-    let q = c.args.prefix.now in
-    let x = row_at s.keys.keys s.rows.items c.self.invariant.whole.listed c.in-Some.place q c.in-Some.ensures in
-    let row : c.index.result.now ≡ x.0 = c.index.ensures ∙ get_or_from_slice_get s.rows.items c.in-Some.place x.0 c.index.result.now x.1 in
-    subst (λ (v : RibView). c.as_slice.result.now ≡ path_of v.kept q) c.self.view_is
-    (c.as_slice.ensures ∙ ap (λ (r : Row). r.kept) row ∙ sym (kept_at s.rows.items q c.in-Some.place x.0 (once s.network.now s.router s.peers.items s.keys.keys s.rows.items c.self.invariant.whole) x.1 x.2))
+    let stands = place_at_key s.network.now s.router s.peers.items s.keys.keys s.rows.items c.self.invariant.whole c.args.prefix.now c.in-Some.place c.in-Some.ensures in
+    record { stands = subst (λ (v : RibView). slice_get (map (λ o. o.prefix) v.net.origins) c.in-Some.place ≡ Some c.args.prefix.now) c.self.view_is stands }
 
 pub returns-in-None : goal.returns-in-None
 returns-in-None c =

@@ -6,7 +6,7 @@ use Rattle.rib_tables.specs.Owners.{RibView, TellsKept}
 use Rattle.rib_tables.specs.Rows.{telling, view_of}
 use Rattle.rib_tables.proofs.ChangeLemmas.{place_fits}
 use Rattle.rib_tables.proofs.RibLemmas.{fit_of, peer_at_place, place_in}
-use Rattle.rib_tables.proofs.DecidingLemmas.{read_at}
+use Rattle.rib_tables.proofs.AskingLemmas.{waits_at}
 use Rattle.rib_tables.proofs.OneRowLemmas.{key_at_place, row_at_place, tell_keeps_rib, tells_view}
 use Rattle.rib_tables.proofs.rib.Rib.tell_at.Goals as goal
 
@@ -57,9 +57,7 @@ invariant_of-self c =
     let path : c.in_ok-path.path ≡ x.0.kept = c.in_ok-path.ensures.ok ∙ c.as_slice.ensures ∙ ap (λ (r : Row). r.kept) row in
     let new : c.tell_at.new.rows.items ≡ set s.rows.items place (telling to (Sequence x.0.kept) x.0) =
     c.tell_at.ensures x.0 x.1 ∙ ap (λ (p : List ℕ). set s.rows.items place (telling to (Sequence p) x.0)) path in
-    let lt = slice_get_within s.peers.items to here.0 here.1 in
-    let long = c.self.invariant.told.long in
-    let was = read_at s.waits.items to c.index_mut-waiting.result.now (omega (arith, lt, long)) c.index_mut-waiting.ensures.value in
+    let was = waits_at s.network.now s.router s.peers.items s.keys.keys s.rows.items s.dirty s.waits.items c.self.invariant to here.0 c.index_mut-waiting.result.now here.1 c.index_mut-waiting.ensures.value in
     tell_keeps_rib s.network.now s.router s.peers.items s.keys.keys s.rows.items c.self.invariant.whole q place x.0 x.1 x.2 to here.0 here.1 s.dirty s.waits.items c.self.invariant c.tell_at.new.rows.items new
     c.index_mut-waiting.result.now c.take_out.new.self was c.take_out.ensures.here c.take_out.ensures.others
 

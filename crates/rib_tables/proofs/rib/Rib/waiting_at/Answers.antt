@@ -1,6 +1,6 @@
 use Rattle.std.proofs.Common.{◌≡◌, ℕ, Some, length, map, subst, sym, ap, ◌∙◌, arith, rules}
 use Rattle.std.specs.List.{slice_get}
-use Rattle.std.proofs.lemmas.Option.{slice_get_within, get_or_from_slice_get}
+use Rattle.std.proofs.lemmas.Option.{get_or_from_slice_get}
 use Rattle.rib_tables.specs.declared.row.Row.{Row}
 use Rattle.rib_tables.specs.Least.{HoldsOfAll, IsLeastWithout}
 use Rattle.rib_tables.specs.Owners.{RibView, IsServed}
@@ -8,8 +8,7 @@ use Rattle.rib_tables.specs.Rows.{view_of}
 use Rattle.rib_tables.proofs.ChangeLemmas.{key_at, within}
 use Rattle.rib_tables.proofs.RibLemmas.{peer_at_place, place_in}
 use Rattle.rib_tables.proofs.OneRowLemmas.{place_at_key}
-use Rattle.rib_tables.proofs.DecidingLemmas.{read_at}
-use Rattle.rib_tables.proofs.AskingLemmas.{waits_for_none, waits_for_first}
+use Rattle.rib_tables.proofs.AskingLemmas.{waits_at, waits_for_none, waits_for_first}
 use Rattle.rib_tables.proofs.rib.Rib.waiting_at.Goals as goal
 
 pub index-requires : goal.index-requires
@@ -26,9 +25,7 @@ returns-in_err-at-clause-least c =
     let net = s.network.now in
     let to = c.args.place in
     let here = peer_at_place s.network.now s.router s.peers.items s.keys.keys s.rows.items c.self.invariant.whole c.args.peer c.args.self.now c.self.view_is c.args.place c.requires.stands in
-    let lt = slice_get_within s.peers.items to here.0 here.1 in
-    let long = c.self.invariant.told.long in
-    let set = read_at s.waits.items to c.index.result.now (omega (arith, lt, long)) c.index.ensures in
+    let set = waits_at net s.router s.peers.items s.keys.keys s.rows.items s.dirty s.waits.items c.self.invariant to here.0 c.index.result.now here.1 c.index.ensures in
     rw c.from_residual.ensures (subst (λ (v : RibView). HoldsOfAll v.net.origins (IsServed v c.args.peer)) c.self.view_is
     (subst (λ (n : ℕ). HoldsOfAll net.origins (IsServed (view_of net s.router s.peers.items s.rows.items) n)) here.2
     (waits_for_none net s.router s.peers.items s.keys.keys s.rows.items s.dirty s.waits.items c.self.invariant to here.0 c.index.result.now here.1 set (λ i _. c.in_err-at.ensures i))))
@@ -39,9 +36,7 @@ returns-then-at-len-clause-least c =
     let net = s.network.now in
     let to = c.args.place in
     let here = peer_at_place s.network.now s.router s.peers.items s.keys.keys s.rows.items c.self.invariant.whole c.args.peer c.args.self.now c.self.view_is c.args.place c.requires.stands in
-    let lt = slice_get_within s.peers.items to here.0 here.1 in
-    let long = c.self.invariant.told.long in
-    let set = read_at s.waits.items to c.index.result.now (omega (arith, lt, long)) c.index.ensures in
+    let set = waits_at net s.router s.peers.items s.keys.keys s.rows.items s.dirty s.waits.items c.self.invariant to here.0 c.index.result.now here.1 c.index.ensures in
     let past = c.if-at-len.true in
     let many = c.len.ensures in
     let len : length s.rows.items ≡ s.rows.len = search rules in
@@ -56,9 +51,7 @@ returns-clause-least c =
     let to = c.args.place in
     let place = c.in_ok-at.at in
     let here = peer_at_place s.network.now s.router s.peers.items s.keys.keys s.rows.items c.self.invariant.whole c.args.peer c.args.self.now c.self.view_is c.args.place c.requires.stands in
-    let lt = slice_get_within s.peers.items to here.0 here.1 in
-    let long = c.self.invariant.told.long in
-    let set = read_at s.waits.items to c.index.result.now (omega (arith, lt, long)) c.index.ensures in
+    let set = waits_at net s.router s.peers.items s.keys.keys s.rows.items s.dirty s.waits.items c.self.invariant to here.0 c.index.result.now here.1 c.index.ensures in
     let inside = c.if-at-len.false in
     let many = c.len.ensures in
     let len : length s.rows.items ≡ s.rows.len = search rules in
