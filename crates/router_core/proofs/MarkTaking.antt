@@ -86,9 +86,6 @@ module _ (r : RouterView) (s : ℕ) where
   snap_is g res y greater late e f h =
       subst (λ (b : Bool). Snaps g res y b (nat_lt GREATEST_STAMP (r.stamp + 1))) (sym e) (subst (λ (b : Bool). Snaps g res y greater b) (sym f) h)
 
-  pub snaps_old : nat_lt r.marks.last s ≡ false → Answers (Err (error.OldSnapshot r.marks.last)) r (Obey (Snapshot s)) r
-  snaps_old l = λ g q ranks. snap_is g (Err (error.OldSnapshot r.marks.last)) (plain_of r) false (nat_lt GREATEST_STAMP (r.stamp + 1)) l refl (refl, refl)
-
   pub snaps_no_step : nat_lt r.marks.last s ≡ true → Answers (Err (no_step r.stamp)) r (Obey (Snapshot s)) r
   snaps_no_step l = λ g q ranks.
       let late = nat_lt GREATEST_STAMP (r.stamp + 1) in

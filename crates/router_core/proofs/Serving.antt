@@ -61,10 +61,6 @@ module _ (g : Setting) (r : RouterView) (v i : ℕ) (p : Peer) (of : IsOf g r) (
   pub puts_nothing : is_some (next_item r.net.settings.cut (side p.end).outbox) ≡ false → Gives g r.number (Ok stepped.Nothing) (answer g r.number (plain_of r) (Put v)) (plain_of r) (Put v) (plain_of r)
   puts_nothing h = put_is (Ok stepped.Nothing) (plain_of r) None (nat_lt GREATEST_STAMP (r.stamp + 1)) (none_is (next_item r.net.settings.cut (side p.end).outbox) h) refl (refl, refl)
 
-  pub puts_late : is_some (next_item r.net.settings.cut (side p.end).outbox) ≡ true → nat_lt GREATEST_STAMP (r.stamp + 1) ≡ true
-      → Gives g r.number (Err error.StampEnd) (answer g r.number (plain_of r) (Put v)) (plain_of r) (Put v) (plain_of r)
-  puts_late h late = let n = some_is (next_item r.net.settings.cut (side p.end).outbox) h in put_is (Err error.StampEnd) (plain_of r) (Some n.0) true n.1 late (refl, refl)
-
   pub puts_item : (q : Peer) → Changes r v i p q → side q.end ≡ put_next (side p.end) r.net.settings.cut → is_some (next_item r.net.settings.cut (side p.end).outbox) ≡ true
       → nat_lt GREATEST_STAMP (r.stamp + 1) ≡ false
       → Gives g r.number (Ok stepped.Did) (answer g r.number (plain_of r) (Put v)) (plain_of r) (Put v) (plain_of (with_peer r i q r.tables r.marks (r.stamp + 1)))

@@ -27,12 +27,11 @@ use Rattle.rib_tables.specs.Owners.{RibView}
 use Rattle.snap_marker.specs.declared.part.Offer.{Offer}
 use Rattle.snap_marker.specs.Parts.{MarkView, snapshots_of, IsOver, IsOf, offer_of, router_of}
 use Rattle.router_model.specs.Settings.{Setting, ChoosesByRank, linked, peers, identifier}
-use Rattle.bgp_codec.specs.declared.rule.Rule.{Rule}
 use Rattle.outbox.specs.declared.item.Item.{Item}
 use Rattle.outbox.specs.declared.item.What.TheVariants as item
 use Rattle.run_model.specs.Network.{alone, puts, takes, offers}
 use Rattle.link_epoch.specs.declared.link_end.Sign.{Sign}
-use Rattle.router_model.specs.Sides.{Side, AtHand, NoMessage, Draft, carried, draft_sign, at_hand, front, without_front, draft_message, is_up, told}
+use Rattle.router_model.specs.Sides.{Side, AtHand, NoMessage, Draft, draft_sign, is_up, told}
 use Rattle.router_model.specs.State.{open_of, new_router, heard, last_told, telling, unadvertised, is_waiting_peer}
 use Rattle.router_model.specs.Step.{moved, taken, next_offer, with_side}
 use Rattle.router_model.specs.Calls.{Stamped, Call, Put, Answer, Steps, Idle, Refuses, answer, Gives, has_room}
@@ -157,11 +156,6 @@ pub record IsSame (x y : RouterView) : Type 0 where
 -- a router as it is made, in every setting of its network
 abbrev pub Opens : Plan → ℕ → RouterView → Type 0
 Opens net number x = (x.net ≡ net) × (x.number ≡ number) × ((g : Setting) → g.net ≡ net → plain_of x ≡ record { router = new_router g; stamp = 0 })
-
--- a side whose front, read under this rule, is handled
-abbrev pub handled_front : Message → Rule → Side → Side
-handled_front own_open rule s = carried (at_hand (front rule s.held)) (without_front s) (draft_message own_open
-    (front rule s.held) s)
 
 -- what `next_item` has to answer, by what the call Put has to answer
 abbrev pub Shows : ℕ → Result (Option Item) RouterError → Answer → Type 0

@@ -96,8 +96,7 @@ impl Router<'_> {
     /// such prefix. There is nothing to do if each peer was told all.
     ///
     /// Refused with [`RouterError::Blocked`] if each peer that waits is at the limit, with [`RouterError::StampEnd`],
-    /// and with [`RouterError::Memory`] if a growth is refused; then all is as it was. [`RouterError::StampEnd`], and
-    /// [`RouterError::Memory`] if a growth is refused; then all is as it was.
+    /// and with [`RouterError::Memory`] if a growth is refused; then all is as it was.
     pub fn advertise(&mut self) -> Result<Stepped, RouterError>
         ensures answers { Answers result self.old Advertise self.new }
         ensures same { IsSame self.old self.new }
@@ -137,13 +136,8 @@ impl Router<'_> {
     {
         let stamp = next_stamp_with_room(self.stamp, room)?;
         let alloc = *self.peers.allocator();
-        let Ok(route) = path_to_tell(
-            alloc,
-            self.network,
-            self.number,
-            prefix,
-            self.tables.path_at(place, prefix),
-        ) else {
+        let path = self.tables.path_at(place, prefix);
+        let Ok(route) = path_to_tell(alloc, self.network, self.number, prefix, path) else {
             return Err(RouterError::Memory);
         };
         let Peer { number, end } = &mut self.peers[at];

@@ -24,28 +24,7 @@ impl Router<'_> {
         ensures answers { Answers result self.old (Obey command) self.new }
         ensures same { IsSame self.old self.new }
     {
-        self.command_with_room(command, Ok(()))
-    }
-
-    // Does what `command` does; if the caller has no room for the event, no step is done.
-    fn command_with_room(
-        &mut self,
-        command: Command,
-        room: Result<(), AllocError>,
-    ) -> Result<Stepped, RouterError>
-        ensures answers { Answers result self.old (Obey command) self.new }
-        ensures full { NeedsRoom result room }
-        ensures same { IsSame self.old self.new }
-    {
-        match command {
-            Command::Start(peer) => self.start(peer, room),
-            Command::Stop(peer) => self.stop(peer, room),
-            Command::Reset(peer) => self.reset(peer, room),
-            Command::Originate(prefix) => self.originate(&prefix, room),
-            Command::Withdraw(prefix) => self.withdraw(&prefix, room),
-            Command::Snapshot(number) => self.snapshot(number, room),
-            Command::Restart => self.restart(room),
-        }
+        self.perform(&Call::Obey(command), Ok(()))
     }
 
     /// Makes one call of the router, but for puts and takes of items, by the method of its name. Refused as that method
@@ -62,10 +41,16 @@ impl Router<'_> {
         ensures full { NeedsRoom result room }
         ensures same { IsSame self.old self.new }
     {
-        match call {
-            Call::Obey(command) => self.command_with_room(*command, room),
+        match *call {
+            Call::Obey(Command::Start(peer)) => self.start(peer, room),
+            Call::Obey(Command::Stop(peer)) => self.stop(peer, room),
+            Call::Obey(Command::Reset(peer)) => self.reset(peer, room),
+            Call::Obey(Command::Originate(prefix)) => self.originate(&prefix, room),
+            Call::Obey(Command::Withdraw(prefix)) => self.withdraw(&prefix, room),
+            Call::Obey(Command::Snapshot(number)) => self.snapshot(number, room),
+            Call::Obey(Command::Restart) => self.restart(room),
             Call::Tick => self.tick_with_room(room),
-            Call::Handle(peer) => self.handle_with_room(*peer, room),
+            Call::Handle(peer) => self.handle_with_room(peer, room),
             Call::Decide => self.decide_with_room(room),
             Call::Advertise => self.advertise_with_room(room),
         }

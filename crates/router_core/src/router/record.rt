@@ -205,15 +205,8 @@ impl Router<'_> {
         the_best_is_the_best_path(&self.tables);
         let origins = self.network.origins();
         let peers = self.peers.as_slice();
-        let part = part_now(
-            alloc,
-            self.number,
-            origins,
-            &self.tables,
-            peers,
-            number,
-            first,
-        )?;
+        let tables = &self.tables;
+        let part = part_now(alloc, self.number, origins, tables, peers, number, first)?;
         let down = first_down(self.peers.as_slice());
         reserve_markers(&mut self.peers)?;
         match self.marks.begin(part, down) {

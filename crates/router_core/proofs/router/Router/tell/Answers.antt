@@ -70,8 +70,8 @@ returns-in_default-reserve_path-clause-tells c =
     subst (λ (x : RouterView). (v : ℕ) → IsAt x.peers v c.args.at → Tells (Err error.Memory) x v q (with_peer_and_tables r c.args.at kept r.tables r.stamp)) c.self.view_is (λ v at.
     rw early (refl, plain_still r c.self.invariant p.number c.args.at (place r c.self.invariant c.args.at q may p is) kept refl still))
 
-pub path_at-requires : goal.path_at-requires
-path_at-requires c =
+pub path_at-path-requires : goal.path_at-path-requires
+path_at-path-requires c =
     let r : RouterView = record { net = c.self.inside.network.now; number = c.self.inside.number; own_open = c.self.inside.own_open; peers = c.self.inside.peers.items; tables = c.self.inside.tables; marks = c.self.inside.marks; stamp = c.self.inside.stamp } in
     record { stands = rw c.self.invariant.tabled.net (subst (λ (x : RouterView). IsNamedAt x.net c.args.prefix.now c.args.place) (sym c.self.view_is) c.requires.named) }
 
@@ -140,7 +140,7 @@ invariant_of-self-2 c =
     let is = c.index_mut.ensures.value in
     let told_peer : Peer = record { number = p.number; end = c.tell_path.new.self } in
     let update : c.in-Ok.route ≡ telling (identifier r.net.routers r.number) q (path_of r.tables.kept q) =
-    c.in-Ok.ensures.update ∙ ap (telling (identifier r.net.routers r.number) q) c.path_at.ensures in
+    c.in-Ok.ensures.update ∙ ap (telling (identifier r.net.routers r.number) q) c.path_at-path.ensures in
     let before : side c.reserve_path.new.self ≡ sides_of r p.number = c.reserve_path.ensures.side ∙ here r c.self.invariant c.args.at q may p is in
     let says : side told_peer.end ≡ told (sides_of r p.number) (telling (identifier r.net.routers r.number) q (path_of r.tables.kept q)) =
     c.tell_path.ensures ∙ ap (λ (s : Side). told s c.in-Ok.route) before ∙ ap (told (sides_of r p.number)) update in
@@ -157,7 +157,7 @@ returns-clause-tells c =
     let is = c.index_mut.ensures.value in
     let told_peer : Peer = record { number = p.number; end = c.tell_path.new.self } in
     let update : c.in-Ok.route ≡ telling (identifier r.net.routers r.number) q (path_of r.tables.kept q) =
-    c.in-Ok.ensures.update ∙ ap (telling (identifier r.net.routers r.number) q) c.path_at.ensures in
+    c.in-Ok.ensures.update ∙ ap (telling (identifier r.net.routers r.number) q) c.path_at-path.ensures in
     let before : side c.reserve_path.new.self ≡ sides_of r p.number = c.reserve_path.ensures.side ∙ here r c.self.invariant c.args.at q may p is in
     let says : side told_peer.end ≡ told (sides_of r p.number) (telling (identifier r.net.routers r.number) q (path_of r.tables.kept q)) =
     c.tell_path.ensures ∙ ap (λ (s : Side). told s c.in-Ok.route) before ∙ ap (told (sides_of r p.number)) update in
