@@ -23,7 +23,7 @@ use Rattle.rib_tables.specs.Choices.{IsBestOf}
 use Rattle.rib_tables.specs.Rows.{RowHears, IsRow, AreRows, IsRowBest, IsRib, MarksSpeaking, Speaking, forgetting, picked, says_in, said_in, established_in, originated_in, kept_in, view_of}
 use Rattle.rib_tables.proofs.RowChoices.{some_of, same_or_apart}
 use Rattle.rib_tables.proofs.RouterLemmas.{best_as}
-use Rattle.rib_tables.proofs.ChangeLemmas.{from_map, map_after}
+use Rattle.rib_tables.proofs.ChangeLemmas.{from_map, map_after, map_same}
 use Rattle.rib_tables.proofs.RibLemmas.{set_here, set_there, row_or_not, new_word, same_word, originated_map, kept_map, peer_once}
 use Rattle.rib_tables.proofs.ViewLemmas.{no_row}
 
@@ -43,12 +43,6 @@ some_path (v ∷ rest) some = (v, rest, refl)
 
 speaks_there : (k : ℕ) (r : Row) (p : List ℕ) → p ≢ [] → slice_get r.heard k ≡ Some (Sequence p) → Speaking k r
 speaks_there k r p some at = let s = some_path p some in (s.0, s.1, at ∙ ap (λ (q : List ℕ). Some (Sequence q)) s.2)
-
--- a session changes no number
-numbers_as : (peers : List Peer) (k : ℕ) (x : Peer) (up : Bool) → slice_get peers k ≡ Some x → map (λ p. p.asn) (set peers k (record { asn = x.asn; up = up })) ≡ map (λ p. p.asn) peers
-numbers_as [] k x up at = refl
-numbers_as (y ∷ ys) zero x up at = ap (λ (p : Peer). p.asn ∷ map (λ p. p.asn) ys) (sym (some_of y x at))
-numbers_as (y ∷ ys) (suc k) x up at = ap (λ (ns : List ℕ). y.asn ∷ ns) (numbers_as ys k x up at)
 
 module _ (net : Plan) (router : ℕ) (peers : List Peer) (keys : List PrefixView) (rows : List Row) (dirty : PlaceSet) (waits : List PlaceSet) (rib : IsRib net router peers keys rows dirty waits)
     (k : ℕ) (x : Peer) (at : slice_get peers k ≡ Some x) where
@@ -80,7 +74,7 @@ module _ (net : Plan) (router : ℕ) (peers : List Peer) (keys : List PrefixView
   turned_rows up f prefix keeps = record {
     network = rib.whole.network;
     routers = rib.whole.routers;
-    numbers = numbers_as peers k x up at ∙ rib.whole.numbers;
+    numbers = map-set_same (λ (p : Peer). p.asn) peers k (record { asn = x.asn; up = up }) x (sym (ap (λ (p : Peer). p.asn) (get_or_from_slice_get peers k x x at))) ∙ rib.whole.numbers;
     apart = λ i j d lt below e.
         let s = size up in
         rib.whole.apart i j d lt (omega (arith, below, s)) (sym (number_of up i d (omega (arith, lt, below, s))) ∙ e ∙ number_of up j d (omega (arith, below, s)));
@@ -103,39 +97,38 @@ module _ (net : Plan) (router : ℕ) (peers : List Peer) (keys : List PrefixView
     each = λ i r there. let y = from_map f rows i r there in subst (IsRow net router (turned up)) (sym y.2) (keeps y.0 (rib.whole.each i y.0 y.1));
   }
 
+  -- the best stays where the peer said no path, and in the changed list gives none
+  turned_best : (up : Bool) (r s : Row) (path : List ℕ) → s.prefix ≡ r.prefix → s.originated ≡ r.originated → ((j : ℕ) → j ≢ k → slice_get s.heard j ≡ slice_get r.heard j) → (Speaking k r → ⊥)
+      → ((v : ℕ) (p : List ℕ) → p ≢ [] → (h : RowHears (turned up) s.heard (length (turned up)) v p) → (h.place ≡ k) × (h.peer ≡ record { asn = x.asn; up = up }) → ⊥)
+      → IsRowBest net router peers r path → IsRowBest net router (turned up) s path
+  turned_best up r s path prefix originated same silent none best = row_best_as net router peers (turned up) r s path prefix originated
+      (λ v p some h. elim (same_or_apart h.place k) [
+        | inl here ↦ absurd (silent (speaks_there k r p some (ap (λ (n : ℕ). slice_get r.heard n) (sym here) ∙ h.word)))
+        | inr apart ↦
+            record {
+              place = h.place;
+              below = (let b = h.below in let l = size up in omega (arith, b, l));
+              peer = h.peer;
+              at = set_there peers k h.place (record { asn = x.asn; up = up }) apart ∙ h.at;
+              up = h.up;
+              number = h.number;
+              word = same h.place apart ∙ h.word;
+            }
+      ])
+      (λ v p some h. elim (peer_of up h.place h.peer h.at) [
+        | inl here ↦ absurd (none v p some h here)
+        | inr other ↦ record { place = h.place; below = (let b = h.below in let l = size up in omega (arith, b, l)); peer = h.peer; at = other.1; up = h.up; number = h.number; word = sym (same h.place other.0) ∙ h.word }
+      ])
+      best
+
   -- ---- a session is left
 
   forgotten_row : (r : Row) → IsRow net router peers r → IsRow net router (turned false) (forgetting k r)
   forgotten_row r is = record { heard = length-set r.heard k nothing ∙ is.heard ∙ sym (size false); sent = length-set r.sent k nothing ∙ is.sent ∙ sym (size false); speaks = is.speaks; own = is.own }
 
   forgotten_best : (r : Row) (path : List ℕ) → (Speaking k r → ⊥) → IsRowBest net router peers r path → IsRowBest net router (turned false) (forgetting k r) path
-  forgotten_best r path silent best = row_best_as net router peers (turned false) r (forgetting k r) path refl refl
-      (λ v p some h. elim (same_or_apart h.place k) [
-        | inl same ↦ absurd (silent (speaks_there k r p some (ap (λ (n : ℕ). slice_get r.heard n) (sym same) ∙ h.word)))
-        | inr apart ↦
-            record {
-              place = h.place;
-              below = (let b = h.below in let s = size false in omega (arith, b, s));
-              peer = h.peer;
-              at = set_there peers k h.place (record { asn = x.asn; up = false }) apart ∙ h.at;
-              up = h.up;
-              number = h.number;
-              word = set_there r.heard k h.place nothing apart ∙ h.word;
-            }
-      ])
-      (λ v p some h. elim (peer_of false h.place h.peer h.at) [
-        | inl here ↦ absurd (false≢true (sym (ap (λ (y : Peer). y.up) here.1) ∙ h.up))
-        | inr other ↦ record {
-          place = h.place;
-          below = (let b = h.below in let s = size false in omega (arith, b, s));
-          peer = h.peer;
-          at = other.1;
-          up = h.up;
-          number = h.number;
-          word = sym (set_there r.heard k h.place nothing other.0) ∙ h.word;
-        }
-      ])
-      best
+  forgotten_best r path silent best =
+      turned_best false r (forgetting k r) path refl refl (λ j apart. set_there r.heard k j nothing apart) silent (λ v p some h here. false≢true (sym (ap (λ (y : Peer). y.up) here.1) ∙ h.up)) best
 
   pub forget_keeps_rib : (new : List Row) (marked none : PlaceSet) → new ≡ map (forgetting k) rows → MarksSpeaking k rows dirty marked → ((i : ℕ) → has none i ≡ false)
       → IsRib net router (turned false) keys new marked (set waits k none)
@@ -168,31 +161,14 @@ module _ (net : Plan) (router : ℕ) (peers : List Peer) (keys : List PrefixView
   risen_row r is = record { heard = is.heard ∙ sym (size true); sent = is.sent ∙ sym (size true); speaks = is.speaks; own = is.own }
 
   risen_best : (r : Row) (path : List ℕ) → (Speaking k r → ⊥) → IsRowBest net router peers r path → IsRowBest net router (turned true) r path
-  risen_best r path silent best = row_best_as net router peers (turned true) r r path refl refl
-      (λ v p some h. elim (same_or_apart h.place k) [
-        | inl same ↦ absurd (silent (speaks_there k r p some (ap (λ (n : ℕ). slice_get r.heard n) (sym same) ∙ h.word)))
-        | inr apart ↦
-            record {
-              place = h.place;
-              below = (let b = h.below in let s = size true in omega (arith, b, s));
-              peer = h.peer;
-              at = set_there peers k h.place (record { asn = x.asn; up = true }) apart ∙ h.at;
-              up = h.up;
-              number = h.number;
-              word = h.word;
-            }
-      ])
-      (λ v p some h. elim (peer_of true h.place h.peer h.at) [
-        | inl here ↦ absurd (silent (speaks_there k r p some (ap (λ (n : ℕ). slice_get r.heard n) (sym here.0) ∙ h.word)))
-        | inr other ↦ record { place = h.place; below = (let b = h.below in let s = size true in omega (arith, b, s)); peer = h.peer; at = other.1; up = h.up; number = h.number; word = h.word }
-      ])
-      best
+  risen_best r path silent best =
+      turned_best true r r path refl refl (λ j apart. refl) silent (λ v p some h here. silent (speaks_there k r p some (ap (λ (n : ℕ). slice_get r.heard n) (sym here.0) ∙ h.word))) best
 
   pub rise_keeps_rib : (marked untold : PlaceSet) → MarksSpeaking k rows dirty marked
       → ((i : ℕ) (r : Row) → slice_get rows i ≡ Some r → (has untold i ≡ true ↔ (slice_get r.sent k ≢ Some (Sequence r.kept))))
       → IsRib net router (turned true) keys rows marked (set waits k untold)
   rise_keeps_rib marked untold marks tells = record {
-    whole = subst (λ (rs : List Row). AreRows net router (turned true) keys rs) (map_id rows) (turned_rows true (λ r. r) (λ r. refl) risen_row);
+    whole = subst (λ (rs : List Row). AreRows net router (turned true) keys rs) (map_same (λ (r : Row). r) (λ r. refl) rows) (turned_rows true (λ r. r) (λ r. refl) risen_row);
     decided = λ i r there out. let m = marks i out in risen_best r r.kept (m.1 r there) (rib.decided i r there m.0);
     told = record {
       long = length-set waits k untold ∙ rib.told.long ∙ sym (size true);
@@ -209,10 +185,6 @@ module _ (net : Plan) (router : ℕ) (peers : List Peer) (keys : List PrefixView
           ];
     };
   }
-    where
-      map_id : (rs : List Row) → map (λ r. r) rs ≡ rs
-      map_id [] = refl
-      map_id (r ∷ rs) = ap (λ (ss : List Row). r ∷ ss) (map_id rs)
 
 -- ---- what look-ups see of a session that comes up or is left
 
