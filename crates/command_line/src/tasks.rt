@@ -1,7 +1,7 @@
 //! What the words ask for beside a text, and the engines that do it.
 
 ghost use Rattle.std.specs.Prelude.{◌≡◌, true, false, ◌⊎◌, IfOk, OnOk, OnErr};
-ghost use Rattle.text_engines.specs.Engine.{PrintedBy, PrintedFrontBy};
+ghost use Rattle.text_engines.specs.Engine.{IsAnswered};
 ghost use Rattle.command_line.specs.Tasks.{TaskPrints, ThreadsPrint};
 
 use bgp_codec::Rule;
@@ -56,20 +56,8 @@ pub fn run_task<S: Source, T: Sink>(
     reader: &mut S,
     writer: &mut T,
 ) -> Result<u8, IoStopped>
-    // What is written is what the task prints for what was read, and nothing else.
-    ensures done { IfOk result
-        (λ status. PrintedBy (TaskPrints task) (S.remaining reader.old) (T.contents writer.old) (T.contents writer.new)
-        status) }
-    // It answers a status only where no read and no write failed, and stops only where one did.
-    ensures unfailed { OnOk result
-        ((S.failed reader.new ≡ S.failed reader.old) × (T.failed writer.new ≡ T.failed writer.old)) }
-    ensures failed { OnErr result ((S.failed reader.new ≡ true) ⊎ (T.failed writer.new ≡ true)) }
-    // Where a read failed nothing is written.
-    ensures silent { S.failed reader.old ≡ false → S.failed reader.new ≡ true
-        → T.contents writer.new ≡ T.contents writer.old }
-    // A failed read or write leaves a beginning of the text.
-    ensures stopped { OnErr result
-        (PrintedFrontBy (TaskPrints task) (S.remaining reader.old) (T.contents writer.old) (T.contents writer.new)) }
+    ensures { IsAnswered (TaskPrints task) (S.remaining reader.old) (T.contents writer.old) (T.contents writer.new)
+        (S.failed reader.old) (S.failed reader.new) (T.failed writer.old) (T.failed writer.new) result }
 {
     match task {
         Task::Decode(rule) => decode_stream(alloc, &rule, reader, writer),
@@ -98,20 +86,8 @@ where
     R: Threads + Wait + Sync,
     S: Source,
     T: Sink,
-    // What is written is what the task prints for what was read, and nothing else.
-    ensures done { IfOk result
-        (λ status. PrintedBy (ThreadsPrint task) (S.remaining reader.old) (T.contents writer.old)
-        (T.contents writer.new) status) }
-    // It answers a status only where no read and no write failed, and stops only where one did.
-    ensures unfailed { OnOk result
-        ((S.failed reader.new ≡ S.failed reader.old) × (T.failed writer.new ≡ T.failed writer.old)) }
-    ensures failed { OnErr result ((S.failed reader.new ≡ true) ⊎ (T.failed writer.new ≡ true)) }
-    // Where a read failed nothing is written.
-    ensures silent { S.failed reader.old ≡ false → S.failed reader.new ≡ true
-        → T.contents writer.new ≡ T.contents writer.old }
-    // A failed read or write leaves a beginning of the text.
-    ensures stopped { OnErr result
-        (PrintedFrontBy (ThreadsPrint task) (S.remaining reader.old) (T.contents writer.old) (T.contents writer.new)) }
+    ensures { IsAnswered (ThreadsPrint task) (S.remaining reader.old) (T.contents writer.old) (T.contents writer.new)
+        (S.failed reader.old) (S.failed reader.new) (T.failed writer.old) (T.failed writer.new) result }
 {
     match task {
         ThreadTask::Run(options) => run_stream(rt, alloc, &options, reader, writer),

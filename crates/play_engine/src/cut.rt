@@ -1,7 +1,7 @@
 //! `bgpnet cut`: the cut of a snapshot of the world that a schedule leads to.
 
 ghost use Rattle.std.specs.Prelude.{◌≡◌, ◌⊎◌, IfOk, OnOk, OnErr, true, false};
-ghost use Rattle.text_engines.specs.Engine.{PrintedBy, PrintedFrontBy};
+ghost use Rattle.text_engines.specs.Engine.{IsAnswered};
 ghost use Rattle.play_engine.specs.Cutting.{Cuts};
 
 use crate::stream::Shown;
@@ -23,20 +23,8 @@ pub fn cut_stream<S: Source, T: Sink>(
     source: &mut S,
     sink: &mut T,
 ) -> Result<u8, IoStopped>
-    // What is written is what is printed for what was read, and nothing else.
-    ensures done { IfOk result
-        (λ status. PrintedBy (Cuts number) (S.remaining source.old) (T.contents sink.old) (T.contents sink.new)
-        status) }
-    // It answers a status only where no read and no write failed, and stops only where one did.
-    ensures unfailed { OnOk result
-        ((S.failed source.new ≡ S.failed source.old) × (T.failed sink.new ≡ T.failed sink.old)) }
-    ensures failed { OnErr result ((S.failed source.new ≡ true) ⊎ (T.failed sink.new ≡ true)) }
-    // Where a read failed nothing is written.
-    ensures silent { S.failed source.old ≡ false → S.failed source.new ≡ true
-        → T.contents sink.new ≡ T.contents sink.old }
-    // A failed read or write leaves a beginning of the text.
-    ensures stopped { OnErr result
-        (PrintedFrontBy (Cuts number) (S.remaining source.old) (T.contents sink.old) (T.contents sink.new)) }
+    ensures { IsAnswered (Cuts number) (S.remaining source.old) (T.contents sink.old) (T.contents sink.new)
+        (S.failed source.old) (S.failed source.new) (T.failed sink.old) (T.failed sink.new) result }
 {
     answer_input(alloc, &Shown::Cut(number), source, sink)
 }

@@ -3,7 +3,7 @@
 ghost use Rattle.std.specs.Prelude.{◌≡◌, ◌⊎◌, IfOk, OnOk, OnErr, true, false};
 ghost use Rattle.net_text.specs.Lexing.{lines_of};
 ghost use Rattle.text_engines.specs.Decoding.{output};
-ghost use Rattle.text_engines.specs.Engine.{PrintedBy, PrintedFrontBy};
+ghost use Rattle.text_engines.specs.Engine.{IsAnswered};
 ghost use Rattle.record_engine.specs.Recording.{events_of, ending_text, record_output, RecordGives, InputRecords, Records};
 
 use crate::text::{ending_text, record_text};
@@ -105,20 +105,8 @@ where
     R: Threads + Wait + Sync,
     S: Source,
     T: Sink,
-    // What is written is what is printed of a run in threads of what was read, and nothing else.
-    ensures done { IfOk result
-        (λ status. PrintedBy (Records options.now) (S.remaining source.old) (T.contents sink.old) (T.contents sink.new)
-        status) }
-    // It answers a status only where no read and no write failed, and stops only where one did.
-    ensures unfailed { OnOk result
-        ((S.failed source.new ≡ S.failed source.old) × (T.failed sink.new ≡ T.failed sink.old)) }
-    ensures failed { OnErr result ((S.failed source.new ≡ true) ⊎ (T.failed sink.new ≡ true)) }
-    // Where a read failed nothing is written.
-    ensures silent { S.failed source.old ≡ false → S.failed source.new ≡ true
-        → T.contents sink.new ≡ T.contents sink.old }
-    // A failed read or write leaves a beginning of the text.
-    ensures stopped { OnErr result
-        (PrintedFrontBy (Records options.now) (S.remaining source.old) (T.contents sink.old) (T.contents sink.new)) }
+    ensures { IsAnswered (Records options.now) (S.remaining source.old) (T.contents sink.old) (T.contents sink.new)
+        (S.failed source.old) (S.failed source.new) (T.failed sink.old) (T.failed sink.new) result }
 {
     match read_input(alloc, source) {
         Ok(input) => write_output(sink, input_output(rt, alloc, options, input)),

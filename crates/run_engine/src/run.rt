@@ -4,7 +4,7 @@ ghost use Rattle.std.specs.Prelude.{◌≡◌, ◌⊎◌, [], length, IfOk, OnOk
 ghost use Rattle.std.specs.List.{AllByRecursion};
 ghost use Rattle.net_text.specs.Lexing.{lines_of};
 ghost use Rattle.text_engines.specs.Decoding.{output};
-ghost use Rattle.text_engines.specs.Engine.{PrintedBy, PrintedFrontBy, WrittenBy, WrittenFrontBy};
+ghost use Rattle.text_engines.specs.Engine.{IsAnswered, WrittenBy, WrittenFrontBy};
 ghost use Rattle.run_engine.specs.Running.{HasSetting, RunGives, InputRuns, Runs, Gated};
 
 use crate::settled::{Demand, settled_output};
@@ -134,20 +134,8 @@ where
     R: Threads + Wait + Sync,
     S: Source,
     T: Sink,
-    // What is written is what is printed of a run in threads of what was read, and nothing else.
-    ensures done { IfOk result
-        (λ status. PrintedBy (Runs options.now) (S.remaining source.old) (T.contents sink.old) (T.contents sink.new)
-        status) }
-    // It answers a status only where no read and no write failed, and stops only where one did.
-    ensures unfailed { OnOk result
-        ((S.failed source.new ≡ S.failed source.old) × (T.failed sink.new ≡ T.failed sink.old)) }
-    ensures failed { OnErr result ((S.failed source.new ≡ true) ⊎ (T.failed sink.new ≡ true)) }
-    // Where a read failed nothing is written.
-    ensures silent { S.failed source.old ≡ false → S.failed source.new ≡ true
-        → T.contents sink.new ≡ T.contents sink.old }
-    // A failed read or write leaves a beginning of the text.
-    ensures stopped { OnErr result
-        (PrintedFrontBy (Runs options.now) (S.remaining source.old) (T.contents sink.old) (T.contents sink.new)) }
+    ensures { IsAnswered (Runs options.now) (S.remaining source.old) (T.contents sink.old) (T.contents sink.new)
+        (S.failed source.old) (S.failed source.new) (T.failed sink.old) (T.failed sink.new) result }
 {
     match read_input(alloc, source) {
         Ok(input) => write_output(sink, run_output(rt, alloc, options, input)),

@@ -1,6 +1,6 @@
 -- Writing a text a piece at a time, and what an engine leaves written.
 use Rattle.std.proofs.Common.{◌≡◌, ℕ, ◌+◌, ◌<◌, ◌≤◌, ◌==◌, Bool, true, false, List, [], ◌++◌, length, take, drop, take-add, codes, Option, Some, None, Result, Ok, Err, IfOk, refl, subst, sym, ap, ◌∙◌, arith, inl, inr}
-use Rattle.std.specs.Prelude.{OnErr, IfSome, Vec, ◌⊎◌, nat_lt, if◌then◌else◌}
+use Rattle.std.specs.Prelude.{OnOk, OnErr, IfSome, Vec, ◌⊎◌, nat_lt, if◌then◌else◌}
 use Rattle.std.proofs.lemmas.Bool.Decides.{nat_tests}
 use Rattle.std.proofs.lemmas.List.{append-nil, length-append, length-take}
 use Rattle.std.specs.Io.KnownBytes.{Appends}
@@ -8,10 +8,10 @@ use Rattle.std.proofs.KnownBytes.{Appends-trans, Appends-nil}
 use Rattle.std.specs.declared.alloc.AllocError.{AllocError}
 use Rattle.bgp_codec.specs.declared.rule.Rule.{Rule}
 use Rattle.text_engines.specs.declared.channel.IoStopped.{IoStopped}
-use Rattle.text_engines.specs.declared.status.TheConstants.{DONE}
+use Rattle.text_engines.specs.declared.status.TheConstants.{DONE, MEMORY}
 use Rattle.text_engines.specs.declared.transfer.TheConstants.{INPUT_LIMIT}
 use Rattle.text_engines.specs.Decoding.{Output, output, memory_output, WithinLimit, OrMemory, DecodeGives, Prints}
-use Rattle.text_engines.specs.Engine.{ReadsUpTo, AppendsFront, IsMade, WrittenBy, WrittenFrontBy, PrintedBy, PrintedFrontBy, limit_comment, limited}
+use Rattle.text_engines.specs.Engine.{ReadsUpTo, AppendsFront, IsMade, WrittenBy, WrittenFrontBy, PrintedBy, PrintedFrontBy, IsAnswered, limit_comment, limited}
 
 pub one_more : (a b c : Option (List ℕ)) (text : List ℕ) (at n : ℕ) → Appends a b (take at text) → Appends b c (take n (drop at text)) → Appends a c (take (at + n) text)
 one_more a b c text at n first second = subst (Appends a c) (sym (take-add at n text)) (Appends-trans a b c (take at text) (take n (drop at text)) first second)
@@ -64,6 +64,59 @@ module _ (IsPrinted : List ℕ → Output → Type 0) where
   made_stopped None old new made (Ok status) prints h = tt
   made_stopped None old new made (Err stopped) prints h = tt
   made_stopped (Some input) old new made r prints h = made_front (IsPrinted input) old new made r prints h
+
+-- ---- what an engine leaves
+
+-- no read failed
+read_on : {A : Type 0} (unread now : Bool) → now ≡ unread → unread ≡ false → now ≡ true → A
+read_on unread now same not_yet failed = absurd (let both = sym not_yet ∙ sym same ∙ failed in cc)
+
+-- a write failed, or nothing did
+ends_whole : (unread now unwritten ended : Bool) (r : Result ℕ IoStopped) → now ≡ unread → OnOk r (ended ≡ unwritten) → OnOk r ((now ≡ unread) × (ended ≡ unwritten))
+ends_whole unread now unwritten ended (Ok status) same h = (same, h)
+ends_whole unread now unwritten ended (Err stopped) same h = tt
+
+ends_short : (now ended : Bool) (r : Result ℕ IoStopped) → OnErr r (ended ≡ true) → OnErr r ((now ≡ true) ⊎ (ended ≡ true))
+ends_short now ended (Ok status) h = tt
+ends_short now ended (Err stopped) h = inr h
+
+memory_done : (IsPrinted : List ℕ → Output → Type 0) (known old new : Option (List ℕ)) (r : Result ℕ IoStopped) → ((input : List ℕ) → IsPrinted input memory_output)
+    → IfOk r (λ status. (status ≡ MEMORY) × Appends old new (codes "memory\n")) → IfOk r (λ status. PrintedBy IsPrinted known old new status)
+memory_done IsPrinted None old new (Ok status) short h = tt
+memory_done IsPrinted (Some input) old new (Ok status) short h =
+    (codes "memory\n", subst (λ (s : ℕ). IsPrinted input (output (codes "memory\n") s)) (sym h.0) (short input), h.1)
+memory_done IsPrinted known old new (Err stopped) short h = tt
+
+module _ (IsPrinted : List ℕ → Output → Type 0) (known old : Option (List ℕ)) (unread now unwritten : Bool) where
+  -- a read failed
+  pub unread_answered : (e : IoStopped) → ((input : List ℕ) → IsPrinted input memory_output) → now ≡ true → IsAnswered IsPrinted known old old unread now unwritten unwritten (Err e)
+  unread_answered e short failed = record { done = tt; unfailed = tt; failed = inl failed; silent = λ a b. refl; stopped = nothing_stopped IsPrinted known old short }
+
+  -- memory was wanting
+  pub memory_answered : (new : Option (List ℕ)) (ended : Bool) (r : Result ℕ IoStopped) → ((input : List ℕ) → IsPrinted input memory_output) → now ≡ unread
+      → IfOk r (λ status. (status ≡ MEMORY) × Appends old new (codes "memory\n")) → OnErr r (AppendsFront old new (codes "memory\n")) → OnErr r (ended ≡ true) → OnOk r (ended ≡ unwritten)
+      → IsAnswered IsPrinted known old new unread now unwritten ended r
+  memory_answered new ended r short same ok stopped failed unfailed =
+      record {
+        done = memory_done IsPrinted known old new r short ok;
+        unfailed = ends_whole unread now unwritten ended r same unfailed;
+        failed = ends_short now ended r failed;
+        silent = read_on unread now same;
+        stopped = memory_stopped IsPrinted known old new r short stopped;
+      }
+
+  -- this was made
+  pub made_answered : {Z : Type 0} (new : Option (List ℕ)) (ended : Bool) (made : Result (Vec ℕ Z × ℕ) AllocError) (r : Result ℕ IoStopped) → now ≡ unread
+      → IfSome known (λ input. (out : Output) → IsMade made out → IsPrinted input out) → IfOk r (λ status. WrittenBy (IsMade made) old new status)
+      → OnErr r (WrittenFrontBy (IsMade made) old new) → OnErr r (ended ≡ true) → OnOk r (ended ≡ unwritten) → IsAnswered IsPrinted known old new unread now unwritten ended r
+  made_answered new ended made r same prints done stopped failed unfailed =
+      record {
+        done = made_done IsPrinted known old new made r prints done;
+        unfailed = ends_whole unread now unwritten ended r same unfailed;
+        failed = ends_short now ended r failed;
+        silent = read_on unread now same;
+        stopped = made_stopped IsPrinted known old new made r prints stopped;
+      }
 
 -- ---- what is made of what was read
 

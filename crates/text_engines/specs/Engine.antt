@@ -1,10 +1,10 @@
 -- How an engine reads and writes.
-use Rattle.std.specs.Prelude.{◌≡◌, ℕ, ◌≤◌, nat_lt, List, [], ◌++◌, length, take, codes, Option, IfSome, Result, MatchResult, Vec, if◌then◌else◌}
+use Rattle.std.specs.Prelude.{◌≡◌, ◌⊎◌, ℕ, ◌≤◌, nat_lt, Bool, true, false, List, [], ◌++◌, length, take, codes, Option, IfSome, Result, IfOk, OnOk, OnErr, MatchResult, Vec, if◌then◌else◌}
 use Rattle.std.specs.Io.KnownBytes.{Appends}
-use Rattle.bgp_codec.specs.declared.rule.Rule.{Rule}
 use Rattle.net_text.specs.Printing.{line}
+use Rattle.text_engines.specs.declared.channel.IoStopped.{IoStopped}
 use Rattle.text_engines.specs.declared.transfer.TheConstants.{INPUT_LIMIT}
-use Rattle.text_engines.specs.Decoding.{Output, output, memory_output, Prints}
+use Rattle.text_engines.specs.Decoding.{Output, output, memory_output}
 
 -- what was read is all the known octets that were left, or a beginning of them that is above the limit
 abbrev pub ReadsUpTo : ℕ → Option (List ℕ) → List ℕ → Type 0
@@ -34,12 +34,18 @@ PrintedBy IsPrinted known old new status = IfSome known (λ input. (text : List 
 abbrev pub PrintedFrontBy : (List ℕ → Output → Type 0) → Option (List ℕ) → Option (List ℕ) → Option (List ℕ) → Type 0
 PrintedFrontBy IsPrinted known old new = IfSome known (λ input. (out : Output) × IsPrinted input out × AppendsFront old new out.text)
 
--- the whole output that is printed for a stream in hex was appended, with this status
-abbrev pub Printed : Rule → Option (List ℕ) → Option (List ℕ) → Option (List ℕ) → ℕ → Type 0
-Printed rule known old new status = PrintedBy (Prints rule) known old new status
-
-abbrev pub PrintedFront : Rule → Option (List ℕ) → Option (List ℕ) → Option (List ℕ) → Type 0
-PrintedFront rule known old new = PrintedFrontBy (Prints rule) known old new
+-- what an engine that reads a whole input leaves: of the octets that were left to read, of what stands written before
+-- and behind it, of whether reads and writes have failed before and behind it, and of what it answers
+pub record IsAnswered (IsPrinted : List ℕ → Output → Type 0) (known old new : Option (List ℕ)) (unread unread_now unwritten unwritten_now : Bool) (result : Result ℕ IoStopped) : Type 0 where
+  -- what is written is what is printed for what was read, and nothing else
+  pub done : IfOk result (λ status. PrintedBy IsPrinted known old new status)
+  -- it answers a status only where no read and no write failed, and stops only where one did
+  pub unfailed : OnOk result ((unread_now ≡ unread) × (unwritten_now ≡ unwritten))
+  pub failed : OnErr result ((unread_now ≡ true) ⊎ (unwritten_now ≡ true))
+  -- where a read failed nothing is written
+  pub silent : unread ≡ false → unread_now ≡ true → new ≡ old
+  -- a failed read or write leaves a beginning of the text
+  pub stopped : OnErr result (PrintedFrontBy IsPrinted known old new)
 
 -- ---- texts that are read again
 

@@ -3,7 +3,7 @@
 ghost use Rattle.std.specs.Prelude.{◌≡◌, ◌^◌, ◌<◌, ◌+◌, ◌⊎◌, length, codes, IfOk, OnOk, OnErr, true, false};
 ghost use Rattle.net_text.specs.Lexing.{lines_of};
 ghost use Rattle.text_engines.specs.Decoding.{output};
-ghost use Rattle.text_engines.specs.Engine.{PrintedBy, PrintedFrontBy};
+ghost use Rattle.text_engines.specs.Engine.{IsAnswered};
 ghost use Rattle.text_engines.specs.Inputs.{NetworkGives, LinesGive};
 ghost use Rattle.text_engines.specs.Checking.{AssignmentGives, Checks};
 
@@ -68,19 +68,8 @@ pub fn check_stream<S: Source, T: Sink>(
     source: &mut S,
     sink: &mut T,
 ) -> Result<u8, IoStopped>
-    // What is written is what is printed for what was read, and nothing else.
-    ensures done { IfOk result
-        (λ status. PrintedBy Checks (S.remaining source.old) (T.contents sink.old) (T.contents sink.new) status) }
-    // It answers a status only where no read and no write failed, and stops only where one did.
-    ensures unfailed { OnOk result
-        ((S.failed source.new ≡ S.failed source.old) × (T.failed sink.new ≡ T.failed sink.old)) }
-    ensures failed { OnErr result ((S.failed source.new ≡ true) ⊎ (T.failed sink.new ≡ true)) }
-    // Where a read failed nothing is written.
-    ensures silent { S.failed source.old ≡ false → S.failed source.new ≡ true
-        → T.contents sink.new ≡ T.contents sink.old }
-    // A failed read or write leaves a beginning of the text.
-    ensures stopped { OnErr result
-        (PrintedFrontBy Checks (S.remaining source.old) (T.contents sink.old) (T.contents sink.new)) }
+    ensures { IsAnswered Checks (S.remaining source.old) (T.contents sink.old) (T.contents sink.new)
+        (S.failed source.old) (S.failed source.new) (T.failed sink.old) (T.failed sink.new) result }
 {
     answer_input(alloc, &CheckEngine, source, sink)
 }

@@ -2,7 +2,7 @@
 
 ghost use Rattle.std.specs.Prelude.{◌≡◌, ℕ, ◌⊎◌, List, IfOk, OnOk, OnErr, true, false};
 ghost use Rattle.text_engines.specs.Decoding.{Output, output, WithinLimit, OrMemory};
-ghost use Rattle.text_engines.specs.Engine.{PrintedBy, PrintedFrontBy};
+ghost use Rattle.text_engines.specs.Engine.{IsAnswered};
 
 use crate::channel::{IoStopped, Sink, Source};
 use crate::refusals::refused_output;
@@ -45,21 +45,9 @@ pub fn answer_input<E: Engine, S: Source, T: Sink>(
     source: &mut S,
     sink: &mut T,
 ) -> Result<u8, IoStopped>
-    // What is written is what is printed for what was read, and nothing else.
-    ensures done { IfOk result
-        (λ status. PrintedBy (OrMemory (WithinLimit (E.gives engine.now))) (S.remaining source.old)
-        (T.contents sink.old) (T.contents sink.new) status) }
-    // It answers a status only where no read and no write failed, and stops only where one did.
-    ensures unfailed { OnOk result
-        ((S.failed source.new ≡ S.failed source.old) × (T.failed sink.new ≡ T.failed sink.old)) }
-    ensures failed { OnErr result ((S.failed source.new ≡ true) ⊎ (T.failed sink.new ≡ true)) }
-    // Where a read failed nothing is written.
-    ensures silent { S.failed source.old ≡ false → S.failed source.new ≡ true
-        → T.contents sink.new ≡ T.contents sink.old }
-    // A failed read or write leaves a beginning of the text.
-    ensures stopped { OnErr result
-        (PrintedFrontBy (OrMemory (WithinLimit (E.gives engine.now))) (S.remaining source.old) (T.contents sink.old)
-        (T.contents sink.new)) }
+    ensures { IsAnswered (OrMemory (WithinLimit (E.gives engine.now))) (S.remaining source.old)
+        (T.contents sink.old) (T.contents sink.new)
+        (S.failed source.old) (S.failed source.new) (T.failed sink.old) (T.failed sink.new) result }
 {
     match read_input(alloc, source) {
         Ok(input) => write_output(sink, limited_answer(alloc, engine, input)),

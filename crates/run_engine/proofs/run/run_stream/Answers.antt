@@ -1,23 +1,20 @@
-use Rattle.std.proofs.Common.{ℕ, List, inr, refl}
+use Rattle.std.proofs.Common.{ℕ, List, Err, ap, inr, refl}
 use Rattle.net_text.specs.Lexing.{lines_of}
-use Rattle.text_engines.proofs.WritingLemmas.{nothing_stopped, memory_stopped, made_done, made_stopped, limited_made}
+use Rattle.text_engines.proofs.WritingLemmas.{unread_answered, memory_answered, made_answered, limited_made}
 use Rattle.run_engine.specs.Running.{LinesRun, Runs}
 use Rattle.run_engine.proofs.run.run_stream.Goals as goal
 
-pub returns-in-Err-Stopped-clause-stopped : goal.returns-in-Err-Stopped-clause-stopped
-returns-in-Err-Stopped-clause-stopped g c = nothing_stopped (Runs c.args.options.now) _ _ (λ input. inr refl)
+pub returns-in-Err-Stopped : goal.returns-in-Err-Stopped
+returns-in-Err-Stopped g c = unread_answered (Runs c.args.options.now) _ _ _ _ _ _ (λ input. inr refl) (c.in-Err-Stopped.ensures.stopped (ap Err c.in-Err-Stopped.field-0-is))
 
-pub returns-in-Err-Memory-clause-stopped : goal.returns-in-Err-Memory-clause-stopped
-returns-in-Err-Memory-clause-stopped g c = memory_stopped (Runs c.args.options.now) _ _ _ c.want_of_memory.result (λ input. inr refl) c.want_of_memory.ensures.stopped
+pub returns-in-Err-Memory : goal.returns-in-Err-Memory
+returns-in-Err-Memory g c =
+    let memory = c.want_of_memory.ensures in
+    memory_answered (Runs c.args.options.now) _ _ _ _ _ _ _ c.want_of_memory.result (λ input. inr refl) (c.in-Err-Memory.ensures.short (ap Err c.in-Err-Memory.field-0-is)) memory.ok memory.stopped memory.failed memory.unfailed
 
-pub returns-in-Ok-clause-done : goal.returns-in-Ok-clause-done
-returns-in-Ok-clause-done g c =
+pub returns-in-Ok : goal.returns-in-Ok
+returns-in-Ok g c =
     let gives = λ (text : List ℕ). LinesRun c.args.options.now (lines_of text) in
     let made = c.run_output.result in
-    made_done (Runs c.args.options.now) _ _ _ made c.write_output.result (limited_made gives _ c.in-Ok.input.items made c.in-Ok.ensures.ok c.run_output.ensures) c.write_output.ensures.done
-
-pub returns-in-Ok-clause-stopped : goal.returns-in-Ok-clause-stopped
-returns-in-Ok-clause-stopped g c =
-    let gives = λ (text : List ℕ). LinesRun c.args.options.now (lines_of text) in
-    let made = c.run_output.result in
-    made_stopped (Runs c.args.options.now) _ _ _ made c.write_output.result (limited_made gives _ c.in-Ok.input.items made c.in-Ok.ensures.ok c.run_output.ensures) c.write_output.ensures.stopped
+    let written = c.write_output.ensures in
+    made_answered (Runs c.args.options.now) _ _ _ _ _ _ _ made c.write_output.result c.in-Ok.ensures.unfailed (limited_made gives _ c.in-Ok.input.items made c.in-Ok.ensures.ok c.run_output.ensures) written.done written.stopped written.failed written.unfailed

@@ -1,18 +1,17 @@
-use Rattle.std.proofs.Common.{Ok, inr, refl}
+use Rattle.std.proofs.Common.{Ok, Err, ap, inr, refl}
 use Rattle.text_engines.specs.Decoding.{Prints}
-use Rattle.text_engines.proofs.WritingLemmas.{nothing_stopped, memory_stopped, made_done, made_stopped, given_made}
+use Rattle.text_engines.proofs.WritingLemmas.{unread_answered, memory_answered, made_answered, given_made}
 use Rattle.text_engines.proofs.decode.decode_stream.Goals as goal
 
-pub returns-in-Err-Stopped-clause-stopped : goal.returns-in-Err-Stopped-clause-stopped
-returns-in-Err-Stopped-clause-stopped g c = nothing_stopped (Prints c.args.rule.now) _ _ (λ input. inr refl)
+pub returns-in-Err-Stopped : goal.returns-in-Err-Stopped
+returns-in-Err-Stopped g c = unread_answered (Prints c.args.rule.now) _ _ _ _ _ _ (λ input. inr refl) (c.in-Err-Stopped.ensures.stopped (ap Err c.in-Err-Stopped.field-0-is))
 
-pub returns-in-Err-Memory-clause-stopped : goal.returns-in-Err-Memory-clause-stopped
-returns-in-Err-Memory-clause-stopped g c = memory_stopped (Prints c.args.rule.now) _ _ _ c.want_of_memory.result (λ input. inr refl) c.want_of_memory.ensures.stopped
+pub returns-in-Err-Memory : goal.returns-in-Err-Memory
+returns-in-Err-Memory g c =
+    let memory = c.want_of_memory.ensures in
+    memory_answered (Prints c.args.rule.now) _ _ _ _ _ _ _ c.want_of_memory.result (λ input. inr refl) (c.in-Err-Memory.ensures.short (ap Err c.in-Err-Memory.field-0-is)) memory.ok memory.stopped memory.failed memory.unfailed
 
-pub returns-in-Ok-clause-done : goal.returns-in-Ok-clause-done
-returns-in-Ok-clause-done g c =
-    made_done (Prints c.args.rule.now) _ _ _ (Ok c.in-Ok.printed) c.write_output.result (given_made c.args.rule.now _ c.in-Ok.printed c.in-Ok.ensures.ok) c.write_output.ensures.done
-
-pub returns-in-Ok-clause-stopped : goal.returns-in-Ok-clause-stopped
-returns-in-Ok-clause-stopped g c =
-    made_stopped (Prints c.args.rule.now) _ _ _ (Ok c.in-Ok.printed) c.write_output.result (given_made c.args.rule.now _ c.in-Ok.printed c.in-Ok.ensures.ok) c.write_output.ensures.stopped
+pub returns-in-Ok : goal.returns-in-Ok
+returns-in-Ok g c =
+    let written = c.write_output.ensures in
+    made_answered (Prints c.args.rule.now) _ _ _ _ _ _ _ (Ok c.in-Ok.printed) c.write_output.result c.in-Ok.ensures.unfailed (given_made c.args.rule.now _ c.in-Ok.printed c.in-Ok.ensures.ok) written.done written.stopped written.failed written.unfailed
