@@ -1,6 +1,5 @@
 //! What the words ask for beside a text, and the engines that do it.
 
-ghost use Rattle.std.specs.Prelude.{◌≡◌, true, false, ◌⊎◌, IfOk, OnOk, OnErr};
 ghost use Rattle.text_engines.specs.Engine.{IsAnswered};
 ghost use Rattle.command_line.specs.Tasks.{TaskPrints, ThreadsPrint};
 

@@ -1,6 +1,5 @@
 //! `bgpnet cut`: the cut of a snapshot of the world that a schedule leads to.
 
-ghost use Rattle.std.specs.Prelude.{◌≡◌, ◌⊎◌, IfOk, OnOk, OnErr, true, false};
 ghost use Rattle.text_engines.specs.Engine.{IsAnswered};
 ghost use Rattle.play_engine.specs.Cutting.{Cuts};
 

@@ -1,6 +1,5 @@
 //! `bgpnet why`: what a router of the world that a schedule leads to knows.
 
-ghost use Rattle.std.specs.Prelude.{◌≡◌, ◌⊎◌, IfOk, OnOk, OnErr, true, false};
 ghost use Rattle.text_engines.specs.Engine.{IsAnswered};
 ghost use Rattle.play_engine.specs.Cutting.{Whys};
 

@@ -1,6 +1,5 @@
 //! `bgpnet decode`: a stream of BGP octets in hex, as lines.
 
-ghost use Rattle.std.specs.Prelude.{◌≡◌, ◌⊎◌, IfOk, OnOk, OnErr, true, false};
 ghost use Rattle.text_engines.specs.Decoding.{Prints};
 ghost use Rattle.text_engines.specs.Engine.{IsAnswered};
 

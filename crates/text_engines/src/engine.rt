@@ -1,6 +1,6 @@
 //! Engines: each reads a text whole, and writes its answer.
 
-ghost use Rattle.std.specs.Prelude.{◌≡◌, ℕ, ◌⊎◌, List, IfOk, OnOk, OnErr, true, false};
+ghost use Rattle.std.specs.Prelude.{ℕ, List, IfOk};
 ghost use Rattle.text_engines.specs.Decoding.{Output, output, WithinLimit, OrMemory};
 ghost use Rattle.text_engines.specs.Engine.{IsAnswered};
 

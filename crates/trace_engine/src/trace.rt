@@ -1,6 +1,5 @@
 //! `bgpnet trace`: the run that a schedule leads to, as a schedule.
 
-ghost use Rattle.std.specs.Prelude.{◌≡◌, ◌⊎◌, IfOk, OnOk, OnErr, true, false};
 ghost use Rattle.text_engines.specs.Engine.{IsAnswered};
 ghost use Rattle.trace_engine.specs.Tracings.{Traces};
 
