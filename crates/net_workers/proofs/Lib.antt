@@ -8,3 +8,4 @@ pub mod Rooms
 pub mod Dealt
 pub mod Ways
 pub mod CalledJournals
+pub mod Sorting

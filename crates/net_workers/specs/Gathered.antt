@@ -27,3 +27,7 @@ all_events (w ∷ ws) = w.journal.events.items ++ all_events ws
 pub record IsSorted (all gathered : List WorkerEvent) : Type 0 where
   pub rising : IsNonDecreasingBy (λ e. e.stamp) gathered
   pub stable : IsStableByKey (λ e. e.stamp) nat_cmp all gathered
+
+-- events can be sorted so
+abbrev pub EventsCanBeSorted : Type 0
+EventsCanBeSorted = (all : List WorkerEvent) → (gathered : List WorkerEvent) × IsSorted all gathered

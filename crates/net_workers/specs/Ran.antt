@@ -151,6 +151,10 @@ pub record IsRecord {G : Type 0} (given : G → List Chore) (plan : Plan) (turns
   pub collects : Collects plan workers c
   pub members : AreMembers plan c.members
 
+-- every router of the network worked: with their events, gathered, that is a record
+abbrev pub AreRecord : {G : Type 0} → (G → List Chore) → Plan → ℕ → Passed → List (Worked G) → CollectorView → Type 0
+AreRecord given plan turns p workers c = (gathered : List WorkerEvent) → IsSorted (all_events workers) gathered → IsRecord given plan turns p workers c gathered
+
 -- what the pairs of the workers have at the end
 abbrev pub put_by : {G : Type 0} → List (Finished G) → ℕ → ℕ → List Item
 put_by [] u v = []

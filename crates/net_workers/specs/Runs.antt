@@ -21,6 +21,7 @@ use Rattle.worker_loop.specs.declared.chore.Chore.{Chore}
 use Rattle.worker_loop.specs.declared.journal.WorkerEvent.{WorkerEvent}
 use Rattle.worker_loop.specs.Laws.{IsOrdered}
 use Rattle.net_workers.specs.declared.record.Worked.{Worked}
+use Rattle.net_workers.specs.Gathered.{all_events, IsSorted}
 use Rattle.net_workers.specs.Ran.{Passed, IsRecord}
 
 -- in each direction the items taken are the first of those put, one after another
@@ -77,3 +78,7 @@ RecordsKeepTheirPromises {G} given =
 -- the promises hold in every setting of the network that chooses by rank
 abbrev pub RunKeepsPromises : {G : Type 0} → Plan → Passed → List (Worked G) → CollectorView → List WorkerEvent → Type 0
 RunKeepsPromises plan p workers c gathered = (g : Setting) → g.net ≡ plan → IsSetting g → KeepsPromises g p workers c gathered
+
+-- and of the events of these journals, gathered
+abbrev pub JournalsKeepPromises : {G : Type 0} → Plan → Passed → List (Worked G) → CollectorView → Type 0
+JournalsKeepPromises plan p workers c = (gathered : List WorkerEvent) → IsSorted (all_events workers) gathered → RunKeepsPromises plan p workers c gathered

@@ -1,5 +1,6 @@
-//! The threads' events are one run of the network. The law is the contract of a function without work of its own.
+//! The threads' events are one run of the network. Each law is the contract of a function without work of its own.
 
+ghost use Rattle.net_workers.specs.Gathered.{EventsCanBeSorted};
 ghost use Rattle.net_workers.specs.Runs.{RecordsAreRuns, RecordsKeepTheirPromises};
 
 use router_runs::{
@@ -109,3 +110,9 @@ pub fn records_are_runs<G: Gate>()
     verdicts_are_outcomes();
     collected_are_kept();
 }
+
+/// Events can be sorted by stamp, those of one stamp as they stood: there is a list that [`crate::Journals::gather`]
+/// answers, be there room for it or not.
+pub fn events_can_be_sorted()
+    ensures { EventsCanBeSorted }
+{}

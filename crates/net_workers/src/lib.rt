@@ -3,6 +3,7 @@
 //!
 //! Its one contract: if [`run_net`] answers a record, the threads' events, put into one order by their stamps, are a
 //! run of the network's routers, and the record's routers, pipes and offers are those of its last state.
+//! [`run_journals`] answers what they did without that order, which [`Journals::gather`] puts them into.
 //!
 //! Left out: that a thread gets on, that two of them run at once, and when anything arrives.
 #![tactic(auto)]
@@ -18,9 +19,9 @@ mod sleepers;
 mod worker_pipes;
 
 pub use board_seat::{Board, BoardSeat};
-pub use net::{record_of, run_net};
+pub use net::{journals_of, run_journals, run_net};
 pub use offer_board::Made;
-pub use record::{Limits, MOST_TURNS, Record, RunFault, Worked, WorkerRecord};
+pub use record::{Journals, Limits, MOST_TURNS, Record, RunFault, Worked, WorkerRecord};
 pub use running::Finished;
 pub use sleepers::Sleepers;
 pub use worker_loop::{Between, Chore, Gate, ScriptGate, WorkerEvent};

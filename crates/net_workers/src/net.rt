@@ -7,16 +7,14 @@ ghost use Rattle.snap_marker.specs.Parts.{router_of};
 ghost use Rattle.snap_collector.specs.Collector.{AreMembers, made_for, with_offers};
 ghost use Rattle.offer_board.specs.Boards.{offers_in};
 ghost use Rattle.net_workers.specs.Faults.{HaveEnded, IsFaultOf, FaultOf};
-ghost use Rattle.net_workers.specs.Gathered.{all_events, IsSorted};
-ghost use Rattle.net_workers.specs.Ran.{first_fault, worked_of, lines_of, passed_by, OffersOf, AreLimits, IsRecord};
-ghost use Rattle.net_workers.specs.Runs.{RunKeepsPromises};
+ghost use Rattle.net_workers.specs.Ran.{first_fault, worked_of, lines_of, passed_by, OffersOf, AreLimits, IsRecord, AreRecord};
+ghost use Rattle.net_workers.specs.Runs.{RunKeepsPromises, JournalsKeepPromises};
 ghost use Rattle.net_workers.specs.Ways.{AreWays, passed_in};
 
 use crate::board_seat::Board;
 use crate::dealing::close_all;
-use crate::gathering::gather;
 use crate::laws::records_are_runs;
-use crate::record::{Limits, MOST_TURNS, Record, RunFault, Worked, WorkerRecord};
+use crate::record::{Journals, Limits, MOST_TURNS, Record, RunFault, Worked, WorkerRecord};
 use crate::running::{Finished, new_workers, run_all};
 use crate::worker_pipes::WorkerPipes;
 use offer_board::{BoardState, Made, made_by_same};
@@ -140,19 +138,19 @@ where
     Ok(workers)
 }
 
-/// Makes the record of workers that have ended.
+/// What workers that have ended did and left.
 ///
 /// Refused with the fault of the least router that has one. If no router has one, refused only with
 /// [`RunFault::BoardDiffers`] or [`RunFault::Memory`]. Nothing is handed back then.
 ///
 /// Premise: the workers are those of the network, each begun as one that did nothing and run to its end.
-pub fn record_of<'a, R, G>(
+pub fn journals_of<'a, R, G>(
     rt: &R,
     alloc: Global,
     network: &'a Network,
     board: BoardState,
     workers: Vec<Finished<'a, G>>,
-) -> Result<Record<'a, G>, RunFault>
+) -> Result<Journals<'a, G>, RunFault>
 where
     R: Wait,
     G: Gate + Drop,
@@ -160,16 +158,15 @@ where
     // The first fault is answered. Want of memory, or that the board differs, is answered only if there is none.
     ensures fault { IfErr result (IsFaultOf workers.entry.items) }
     ensures none { OnOk result (first_fault workers.entry.items ≡ None) }
-    // The record is that of these workers, and its collector has the offers of this board.
+    // They are those of these workers, and the collector has the offers of this board.
     ensures worked { IfOk result (λ r. r.workers.items ≡ map worked_of workers.entry.items) }
     ensures passed { IfOk result (λ r. passed_by workers.entry.items ≡ passed_in r.ways.items) }
-    ensures sorted { IfOk result (λ r. IsSorted (all_events r.workers.items) r.gathered.items) }
     ensures collected { IfOk result (λ r. made_for r.collector ≡ with_offers (λ s. []) (offers_in board.offers)) }
     ensures ways { IfOk result (λ r. AreWays network.now r.ways.items) }
     ensures recorded { (turns : ℕ) → HaveEnded G.given network.now turns workers.entry.items
-        → IfOk result (λ r. IsRecord G.given network.now turns (passed_in r.ways.items) r.workers.items r.collector r.gathered.items) }
+        → IfOk result (λ r. AreRecord G.given network.now turns (passed_in r.ways.items) r.workers.items r.collector) }
     ensures promises { IfOk result
-        (λ r. RunKeepsPromises network.now (passed_in r.ways.items) r.workers.items r.collector r.gathered.items) }
+        (λ r. JournalsKeepPromises network.now (passed_in r.ways.items) r.workers.items r.collector) }
 {
     what_follows_is_done();
     records_are_runs::<G>();
@@ -182,13 +179,11 @@ where
     }
     let (workers, ends) = parted(alloc, workers)?;
     let ways = close_all(rt, alloc, network, ends)?;
-    let gathered = gather(alloc, workers.as_slice())?;
     let collector = collect(alloc, network, board.into_offers())?;
-    Ok(Record {
+    Ok(Journals {
         workers,
         ways,
         collector,
-        gathered,
     })
 }
 
@@ -199,7 +194,7 @@ fn run_within<'a, R, G>(
     network: &'a Network,
     gates: Vec<G>,
     turns: u32,
-) -> Result<Record<'a, G>, RunFault>
+) -> Result<Journals<'a, G>, RunFault>
 where
     R: Threads + Wait + Sync,
     G: Gate + Send + Drop,
@@ -210,14 +205,13 @@ where
     ensures told { IfOk result (λ r. map (λ w. G.told w.gate) r.workers.items ≡ map G.told gates.items) }
     ensures ways { IfOk result (λ r. AreWays network.now r.ways.items) }
     ensures recorded { IfOk result
-        (λ r. IsRecord G.given network.now turns (passed_in r.ways.items) r.workers.items r.collector
-        r.gathered.items) }
+        (λ r. AreRecord G.given network.now turns (passed_in r.ways.items) r.workers.items r.collector) }
     ensures promises { IfOk result
-        (λ r. RunKeepsPromises network.now (passed_in r.ways.items) r.workers.items r.collector r.gathered.items) }
+        (λ r. JournalsKeepPromises network.now (passed_in r.ways.items) r.workers.items r.collector) }
 {
     let board = Board::new(alloc, network)?;
     let workers = ended_workers(rt, alloc, network, gates, turns, &board)?;
-    record_of(rt, alloc, network, board.into_state(), workers)
+    journals_of(rt, alloc, network, board.into_state(), workers)
 }
 
 /// Runs a network: each router in a thread of its own, at the word of its gate. It returns once all threads have ended.
@@ -230,8 +224,44 @@ where
 /// worker's want of memory, or that of the work around them: no clause says when. After a fault the other workers go on
 /// to their own end, and nothing is handed back.
 ///
-/// A record says what the threads did, each router at the word of the gate that was given for it. It is one run of the
-/// network, and its pipes hold what was put into them and not taken.
+/// The journals say what the threads did, each router at the word of the gate that was given for it. With their events
+/// in one order, by stamp and then by router, they are the record of one run of the network; the pipes hold what was put
+/// into them and not taken.
+pub fn run_journals<'a, R, G>(
+    rt: &R,
+    alloc: Global,
+    network: &'a Network,
+    gates: Vec<G>,
+    limits: Limits,
+) -> Result<Journals<'a, G>, RunFault>
+where
+    R: Threads + Wait + Sync,
+    G: Gate + Send + Drop,
+    requires fresh { AllByRecursion (λ gate. G.given gate ≡ []) gates.items }
+    ensures limits { OnOk result (AreLimits network.now limits.turns (length gates.items)) }
+    ensures refused { IfErr result
+        (λ why. why ≡ RunFault.BadLimits ↔ (AreLimits network.now limits.turns (length gates.items) → ⊥)) }
+    // Of some workers that were told the same: the fault is that of the least router that has one; it ended for it, and
+    // those before it did their chores.
+    ensures fault { IfErr result (FaultOf G.given G.told network.now limits.turns (map G.told gates.items)) }
+    // Router by router, the gate that comes back was told what the given one was told.
+    ensures told { IfOk result (λ r. map (λ w. G.told w.gate) r.workers.items ≡ map G.told gates.items) }
+    ensures ways { IfOk result (λ r. AreWays network.now r.ways.items) }
+    ensures recorded { IfOk result
+        (λ r. AreRecord G.given network.now limits.turns (passed_in r.ways.items) r.workers.items r.collector) }
+    // Gathered they are the record of a run of the network, in which UPDATEs passed in order and whose snapshots can be
+    // believed.
+    ensures promises { IfOk result
+        (λ r. JournalsKeepPromises network.now (passed_in r.ways.items) r.workers.items r.collector) }
+{
+    if !are_limits(network, limits.turns, gates.len()) {
+        return Err(RunFault::BadLimits);
+    }
+    run_within(rt, alloc, network, gates, limits.turns)
+}
+
+/// Does what [`run_journals`] does, is refused as it is, and gathers the events: for want of memory for them it answers
+/// [`RunFault::Memory`].
 pub fn run_net<'a, R, G>(
     rt: &R,
     alloc: Global,
@@ -259,8 +289,9 @@ where
     ensures promises { IfOk result
         (λ r. RunKeepsPromises network.now (passed_in r.ways.items) r.workers.items r.collector r.gathered.items) }
 {
-    if !are_limits(network, limits.turns, gates.len()) {
-        return Err(RunFault::BadLimits);
+    let journals = run_journals(rt, alloc, network, gates, limits)?;
+    match journals.gather(alloc) {
+        Ok(record) => Ok(record),
+        Err(_) => Err(RunFault::Memory),
     }
-    run_within(rt, alloc, network, gates, limits.turns)
 }

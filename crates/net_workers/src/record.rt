@@ -85,6 +85,18 @@ pub struct ClosedPipe {
     pub tail: Tail<Item>,
 }
 
+/// What a network's threads did, journal by journal, and what they left.
+#[derive(Drop)]
+pub struct Journals<'a, G> {
+    /// The routers, rising, each with its journal and its gate.
+    pub workers: Vec<Worked<'a, G>>,
+    /// The pipes: for each link, in the order of the network, the one that leads there and the one
+    /// that leads back.
+    pub ways: Vec<ClosedPipe>,
+    /// The collector.
+    pub collector: Collector,
+}
+
 /// The record of a network's threads: what they did, and what they left.
 #[derive(Drop)]
 pub struct Record<'a, G> {

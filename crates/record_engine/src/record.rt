@@ -18,7 +18,7 @@ use text_engines::{
     INPUT_LIMIT, InputError, IoStopped, Sink, Source, put_limit, read_input, refused_output,
     text_output, want_of_memory, write_output,
 };
-use thread_runs::{RunOptions, fault_output, run_network};
+use thread_runs::{RunOptions, fault_output, record_network};
 
 /// What is printed of a record of a network of these lines, and the status: the lines, the line `schedule`, and each
 /// event of the record as an order, as they stand there; behind them, as comments, how each snapshot that is decided
@@ -57,7 +57,7 @@ where
     ensures { IfOk result
         (λ printed. RecordGives options.now (lines_of lines.now) network.now (output printed.0.items printed.1)) }
 {
-    match run_network(rt, alloc, options, network) {
+    match record_network(rt, alloc, options, network) {
         Ok(record) => {
             let _ = record.collector.decided();
             record_output(alloc, lines, network, &record)

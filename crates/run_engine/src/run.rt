@@ -11,6 +11,7 @@ use crate::settled::{Demand, settled_output};
 use crate::threads::threads_output;
 use bgp_codec::Message;
 use net_text::{Code, read_network};
+use net_workers::laws::events_can_be_sorted;
 use net_workers::{Gate, Limits};
 use prefix_lanes::Prefix;
 use ranked_policy::{Network, Path};
@@ -84,13 +85,14 @@ where
 {
     let _ = network.built();
     has_setting(network);
+    events_can_be_sorted();
     members_are_the_routers();
     outcome_is_one::<Message, Prefix, Path>();
     match run_network(rt, alloc, options, network) {
-        Ok(record) => settled_output(
+        Ok(journals) => settled_output(
             alloc,
             network,
-            &record.collector,
+            &journals.collector,
             options.snapshots,
             Demand::EveryOrigin,
         ),

@@ -7,7 +7,8 @@ ghost use Rattle.run_engine.specs.Running.{ThreadsGive};
 
 use crate::settled::{Demand, settled_output};
 use bgp_codec::Message;
-use net_workers::{Gate, Limits, run_net};
+use net_workers::laws::events_can_be_sorted;
+use net_workers::{Gate, Limits, run_journals};
 use prefix_lanes::Prefix;
 use ranked_policy::{Network, Path};
 use run_model::outcome_is_one;
@@ -36,10 +37,11 @@ where
         (output printed.0.items printed.1)) }
 {
     let _ = network.built();
+    events_can_be_sorted();
     members_are_the_routers();
     outcome_is_one::<Message, Prefix, Path>();
-    match run_net(rt, alloc, network, gates, limits) {
-        Ok(record) => settled_output(alloc, network, &record.collector, last, Demand::AsRecorded),
+    match run_journals(rt, alloc, network, gates, limits) {
+        Ok(journals) => settled_output(alloc, network, &journals.collector, last, Demand::AsRecorded),
         Err(fault) => fault_output(alloc, fault),
     }
 }

@@ -1,3 +1,4 @@
+use Rattle.net_workers.specs.Gathered.{all_events}
 use Rattle.text_engines.specs.Decoding.{output}
 use Rattle.text_engines.proofs.CheckLemmas.{if_ok, both_ok}
 use Rattle.run_engine.specs.declared.settled.Demand.TheVariants.{EveryOrigin}
@@ -6,7 +7,8 @@ use Rattle.run_engine.proofs.run.network_output.Goals as goal
 
 pub returns-in-Ok : goal.returns-in-Ok
 returns-in-Ok g c =
-    let r = c.in-Ok.record in
+    let r = c.in-Ok.journals in
+    let sorted = c.events_can_be_sorted.ensures (all_events r.workers.items) in
     let options = c.args.options.now in
     let net = c.args.network.now in
     if_ok _ _ c.settled_output.result
@@ -16,11 +18,11 @@ returns-in-Ok g c =
       workers = r.workers.items;
       ways = r.ways.items;
       collector = r.collector;
-      gathered = r.gathered.items;
-      recorded = c.in-Ok.ensures.recorded;
+      gathered = sorted.0;
+      recorded = c.in-Ok.ensures.recorded sorted.0 sorted.1;
       pipes = c.in-Ok.ensures.ways;
       gates = c.in-Ok.ensures.told;
-      promises = c.in-Ok.ensures.promises;
+      promises = c.in-Ok.ensures.promises sorted.0 sorted.1;
     })
     options.snapshots (output printed.0.items printed.1) gives))
     c.settled_output.ensures

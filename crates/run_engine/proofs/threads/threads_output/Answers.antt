@@ -1,4 +1,5 @@
 use Rattle.std.proofs.Common.{inr}
+use Rattle.net_workers.specs.Gathered.{all_events}
 use Rattle.text_engines.specs.Decoding.{output}
 use Rattle.run_engine.specs.declared.settled.Demand.TheVariants.{AsRecorded}
 use Rattle.text_engines.proofs.CheckLemmas.{if_ok, both_ok}
@@ -7,7 +8,8 @@ use Rattle.run_engine.proofs.threads.threads_output.Goals as goal
 
 pub returns-in-Ok : goal.returns-in-Ok
 returns-in-Ok g c =
-    let r = c.in-Ok.record in
+    let r = c.in-Ok.journals in
+    let sorted = c.events_can_be_sorted.ensures (all_events r.workers.items) in
     if_ok _ _ c.settled_output.result
     (λ printed gives. inr (
       c.in-Ok.ensures.limits,
@@ -16,11 +18,11 @@ returns-in-Ok g c =
             workers = r.workers.items;
             ways = r.ways.items;
             collector = r.collector;
-            gathered = r.gathered.items;
-            recorded = c.in-Ok.ensures.recorded;
+            gathered = sorted.0;
+            recorded = c.in-Ok.ensures.recorded sorted.0 sorted.1;
             pipes = c.in-Ok.ensures.ways;
             gates = c.in-Ok.ensures.told;
-            promises = c.in-Ok.ensures.promises;
+            promises = c.in-Ok.ensures.promises sorted.0 sorted.1;
           })
           c.args.last (output printed.0.items printed.1) gives),
     ))

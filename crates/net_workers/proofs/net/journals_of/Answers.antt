@@ -1,10 +1,11 @@
-use Rattle.std.proofs.Common.{◌≡◌, ◌∙◌, ℕ, ap, sym, refl, subst, inl, inr, None, [], map}
+use Rattle.std.proofs.Common.{◌≡◌, ◌∙◌, ℕ, ap, sym, refl, subst, inl, inr, None, [], map, List}
 use Rattle.ranked_policy.specs.Plans.{IsRouter}
 use Rattle.snap_marker.specs.Parts.{router_of}
 use Rattle.std.specs.List.{AllByRecursion}
 use Rattle.offer_board.specs.Boards.{offers_in}
 use Rattle.snap_collector.specs.Collector.{made_for, with_offers}
-use Rattle.net_workers.specs.Ran.{Passed, first_fault, passed_by, OffersOf, IsRecord}
+use Rattle.worker_loop.specs.declared.journal.WorkerEvent.{WorkerEvent}
+use Rattle.net_workers.specs.Ran.{Passed, first_fault, passed_by, OffersOf, IsRecord, AreRecord}
 use Rattle.net_workers.specs.Faults.{HaveEnded}
 use Rattle.net_workers.specs.Gathered.{all_events, IsSorted}
 use Rattle.net_workers.specs.Ways.{passed_in}
@@ -12,8 +13,8 @@ use Rattle.net_workers.proofs.Records.{record_is}
 use Rattle.net_workers.proofs.Faults.{wants_memory}
 use Rattle.net_workers.proofs.Rooms.{rooms_are}
 use Rattle.net_workers.proofs.Ways.{many_ends, dealt_still, passed_then, in_turn}
-use Rattle.net_workers.proofs.net.record_of.Given.{Over}
-use Rattle.net_workers.proofs.net.record_of.Goals as goal
+use Rattle.net_workers.proofs.net.journals_of.Given.{Over}
+use Rattle.net_workers.proofs.net.journals_of.Goals as goal
 
 pub close_all-requires-clause-many : goal.close_all-requires-clause-many
 close_all-requires-clause-many g c =
@@ -41,22 +42,19 @@ passed g c =
     passed_then g.G.Gate.given c.args.network.now c.requires.ended.0 r.before c.args.workers.items r.many (quiet g c) r.ran
     c.in_ok-workers.ends.items c.in_ok-ways.ways.items c.in_ok-workers.ensures.ends r.routers c.in_ok-ways.ensures.passed
 
-sorted : (g : Over) (c : goal.In_ok-collector g) → IsSorted (all_events c.in_ok-workers.workers.items) c.in_ok-gathered.gathered.items
-sorted g c = subst (λ ws. IsSorted (all_events ws) c.in_ok-gathered.gathered.items) c.as_slice-2.ensures.value c.in_ok-gathered.ensures
-
 collected : (g : Over) (c : goal.In_ok-collector g) → made_for c.in_ok-collector.collector ≡ with_offers (λ s. []) (offers_in c.args.board.offers)
 collected g c = c.in_ok-collector.ensures.made ∙ ap (λ os. with_offers (λ s. []) (offers_in os)) c.into_offers.ensures.value
 
 recorded : (g : Over) (c : goal.In_ok-collector g) (turns : ℕ) → HaveEnded g.G.Gate.given c.args.network.now turns c.args.workers.items
-    → IsRecord g.G.Gate.given c.args.network.now turns (passed_in c.in_ok-ways.ways.items) c.in_ok-workers.workers.items c.in_ok-collector.collector c.in_ok-gathered.gathered.items
-recorded g c turns h =
+    → AreRecord g.G.Gate.given c.args.network.now turns (passed_in c.in_ok-ways.ways.items) c.in_ok-workers.workers.items c.in_ok-collector.collector
+recorded g c turns h gathered sorted =
     let r = h.ran in
     let board = c.args.board in
     let plan = c.args.network.now in
-    subst (λ (p : Passed). IsRecord g.G.Gate.given plan turns p c.in_ok-workers.workers.items c.in_ok-collector.collector c.in_ok-gathered.gathered.items) (passed g c)
+    subst (λ (p : Passed). IsRecord g.G.Gate.given plan turns p c.in_ok-workers.workers.items c.in_ok-collector.collector gathered) (passed g c)
     (record_is c.what_follows_is_done.ensures g.G.Gate.given plan turns r.before c.args.workers.items c.in_ok-workers.workers.items
-    c.in_ok-collector.collector c.in_ok-gathered.gathered.items board.offers r.network r.routers r.fresh
-    (rooms_are plan r.before r.network.plan.rising r.routers r.dealt) r.many (quiet g c) r.ran c.in_ok-workers.ensures.worked (sorted g c)
+    c.in_ok-collector.collector gathered board.offers r.network r.routers r.fresh
+    (rooms_are plan r.before r.network.plan.rising r.routers r.dealt) r.many (quiet g c) r.ran c.in_ok-workers.ensures.worked sorted
     (subst (AllByRecursion (OffersOf board.offers)) c.as_slice-else-not-are_known.ensures.value (c.if-not-agrees.ensures refl))
     (subst (AllByRecursion (λ o. IsRouter plan.routers (router_of o.offer))) c.offers.ensures.value (c.if-not-are_known.ensures refl))
     c.into_offers.ensures.board.rising (collected g c) c.in_ok-collector.ensures.members)
@@ -67,9 +65,6 @@ returns-clause-none g c = quiet g c
 pub returns-clause-passed : goal.returns-clause-passed
 returns-clause-passed g c = passed g c
 
-pub returns-clause-sorted : goal.returns-clause-sorted
-returns-clause-sorted g c = sorted g c
-
 pub returns-clause-collected : goal.returns-clause-collected
 returns-clause-collected g c = collected g c
 
@@ -77,10 +72,10 @@ pub returns-clause-recorded : goal.returns-clause-recorded
 returns-clause-recorded g c = recorded g c
 
 pub returns-clause-promises : goal.returns-clause-promises
-returns-clause-promises g c =
+returns-clause-promises g c gathered sorted =
     let h = c.requires.ended in
-    c.records_are_runs.ensures.promises c.args.network.now h.0 (passed_in c.in_ok-ways.ways.items) c.in_ok-workers.workers.items c.in_ok-collector.collector c.in_ok-gathered.gathered.items
-    (recorded g c h.0 h.1) (in_turn c.args.network.now c.in_ok-ways.ways.items c.in_ok-ways.ensures.ways.each)
+    c.records_are_runs.ensures.promises c.args.network.now h.0 (passed_in c.in_ok-ways.ways.items) c.in_ok-workers.workers.items c.in_ok-collector.collector gathered
+    (recorded g c h.0 h.1 gathered sorted) (in_turn c.args.network.now c.in_ok-ways.ways.items c.in_ok-ways.ensures.ways.each)
 
 -- ---- why there is none
 
@@ -98,11 +93,6 @@ pub returns-in_err-ways-clause-fault : goal.returns-in_err-ways-clause-fault
 returns-in_err-ways-clause-fault g c =
     wants_memory c.from_residual-in_err-ways.result c.args.workers.items (ap first_fault (sym c.as_slice.ensures.value) ∙ sym c.first_fault.ensures.first ∙ c.in-None.is)
     c.from_residual-in_err-ways.ensures.1
-
-pub returns-in_err-gathered-clause-fault : goal.returns-in_err-gathered-clause-fault
-returns-in_err-gathered-clause-fault g c =
-    wants_memory c.from_residual-in_err-gathered.result c.args.workers.items (ap first_fault (sym c.as_slice.ensures.value) ∙ sym c.first_fault.ensures.first ∙ c.in-None.is)
-    c.from_residual-in_err-gathered.ensures.1
 
 pub returns-in_err-collector-clause-fault : goal.returns-in_err-collector-clause-fault
 returns-in_err-collector-clause-fault g c =
