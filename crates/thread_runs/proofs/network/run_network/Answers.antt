@@ -11,4 +11,4 @@ returns-clause-fault g c =
     let options = c.args.options.now in
     let told : map told_of c.in_ok-gates.gates.items ≡ run_tellings options net =
     c.in_ok-gates.ensures.told ∙ ap (λ (n : ℕ). told_each net n options.snapshots net.routers) c.in-Some.ensures.1 in
-    subst (λ (ts : List Told). IfErr c.run_net.result (FaultOf given_by told_of net options.turns ts)) told c.run_net.ensures.fault
+    subst (λ (ts : List Told). IfErr c.run_journals.result (FaultOf given_by told_of net options.turns ts)) told c.run_journals.ensures.fault
