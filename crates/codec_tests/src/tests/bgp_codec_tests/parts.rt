@@ -1,5 +1,9 @@
 //! The parts of an UPDATE, read one after the other from its octets.
 
+ghost use Rattle.std.specs.Prelude.{◌≡◌};
+ghost use Rattle.bgp_codec.specs.Header.{IsFrame, kind_field};
+ghost use Rattle.bgp_values.specs.declared.messages.TheConstants.{UPDATE};
+
 use super::judging::framed;
 use bgp_codec::{
     Asn, NOBODY, NumberOctets, PathOctets, PrefixOctets, SegmentKind, UpdateParts, update_parts,
@@ -75,16 +79,23 @@ static BODY: &[u8] = b"\x00\x03\x10\x0a\x01\x00\x18\
     \x40\x02\x0a\x02\x02\x00\x01\x00\x02\x01\x01\x00\x03\
     \x11\x0a\x01\xff\x00";
 
-// Whether a frame with these parts stands in front of the octets.
-fn has_parts(alloc: Global, octets: &[u8]) -> bool {
+// Whether the frame of an UPDATE has these parts.
+fn has_parts(alloc: Global, frame: &[u8]) -> bool
+    requires frame { IsFrame frame.now }
+    requires kind { kind_field frame.now ≡ UPDATE }
+{
+    match update_parts(alloc, frame, &NOBODY) {
+        Ok(parts) => are_parts(parts),
+        Err(_error) => false,
+    }
+}
+
+// Whether the frame of an UPDATE with these parts stands in front of the octets.
+fn begins_with_parts(alloc: Global, octets: &[u8]) -> bool {
     match next_message(alloc, octets) {
         Next::Whole(_, end) => {
             let (frame, _) = octets.split_at(end);
-            frame[18] == UPDATE
-                && match update_parts(alloc, frame, &NOBODY) {
-                    Ok(parts) => are_parts(parts),
-                    Err(_) => false,
-                }
+            frame[18] == UPDATE && has_parts(alloc, frame)
         }
         Next::More | Next::Bad(_) => false,
     }
@@ -92,6 +103,6 @@ fn has_parts(alloc: Global, octets: &[u8]) -> bool {
 
 #[test]
 fn an_update_is_read_in_parts(rt: HostRuntime) -> Result<(), Fail> {
-    assert!(rt; has_parts(rt.alloc(), &framed(UPDATE, BODY)));
+    assert!(rt; begins_with_parts(rt.alloc(), &framed(UPDATE, BODY)));
     Ok(())
 }
