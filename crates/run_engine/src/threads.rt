@@ -41,7 +41,13 @@ where
     members_are_the_routers();
     outcome_is_one::<Message, Prefix, Path>();
     match run_journals(rt, alloc, network, gates, limits) {
-        Ok(journals) => settled_output(alloc, network, &journals.collector, last, Demand::AsRecorded),
+        Ok(journals) => settled_output(
+            alloc,
+            network,
+            &journals.collector,
+            last,
+            Demand::AsRecorded,
+        ),
         Err(fault) => fault_output(alloc, fault),
     }
 }
