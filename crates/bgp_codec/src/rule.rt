@@ -1,9 +1,7 @@
 //! The rule under which messages are read.
 
+pub use bgp_values::Asn;
 use bgp_values::Width;
-
-/// The number of an autonomous system.
-pub type Asn = u32;
 
 /// What the reader knows of the speaker, and of itself.
 #[derive(Clone, Copy, Debug, PartialEq, Eq)]

@@ -30,4 +30,4 @@ pub use messages::{
     LEAST_UPDATE, MESSAGE_LIMIT, MOST_DATA, NOTIFICATION, OPEN, UPDATE, VERSION,
 };
 pub use ranges::{FIRST_UNICAST, LAST_UNICAST, LEAST_HOLD, is_asn, is_hold_time, is_unicast};
-pub use width::{AS_TRANS, GREATEST_OF_FOUR, GREATEST_OF_TWO, Width, greatest_asn};
+pub use width::{AS_TRANS, Asn, GREATEST_OF_FOUR, GREATEST_OF_TWO, Width, greatest_asn};

@@ -3,6 +3,9 @@
 ghost use Rattle.std.specs.Prelude.{◌≡◌};
 ghost use Rattle.bgp_values.specs.Ranges.{greatest_asn};
 
+/// The number of an autonomous system, and so of a router: each router is a system of its own.
+pub type Asn = u32;
+
 /// How many octets an AS number has, in a path and in an AGGREGATOR.
 #[derive(Clone, Copy, Debug, PartialEq, Eq)]
 pub enum Width {

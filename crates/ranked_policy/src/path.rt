@@ -2,12 +2,10 @@
 
 ghost use Rattle.std.specs.Prelude.{◌≡◌, ◌≤◌, ◌<◌, ◌^◌, ◌↔◌, ◌==◌, [], ◌∷◌, length, IsTrue, IsOk, IfOk};
 
+pub use bgp_values::Asn;
 use smallvec::SmallVec;
 use std::alloc::{AllocError, Global};
 use std::marker::Model;
-
-/// The number of an autonomous system, and so of a router: each router is a system of its own.
-pub type Asn = u32;
 
 /// A list of AS numbers, the nearest router first and the origin last. Up to eight stand in the
 /// value itself and take no memory.
