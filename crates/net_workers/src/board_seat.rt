@@ -1,15 +1,15 @@
 //! A worker's place at the board.
 
-ghost use Rattle.std.specs.Prelude.{◌≡◌, ◌<◌, ◌≤◌, vec_len, vec_capacity, IfOk, OnOk, OnErr, IsErr};
+ghost use Rattle.std.specs.Prelude.{◌≡◌, ◌<◌, ◌≤◌, IfOk, OnErr, IsErr};
 ghost use Rattle.run_model.specs.declared.stamps.TheConstants.{GREATEST_STAMP};
 ghost use Rattle.snap_collector.specs.Collecting.{made_by};
 ghost use Rattle.snap_marker.specs.Parts.{offer_of, router_of};
-ghost use Rattle.offer_board.specs.Boards.{collected_in};
+ghost use Rattle.offer_board.specs.Boards.{collected_in, AreCopies};
 ghost use Rattle.worker_loop.specs.Acts.{with_offer};
 ghost use Rattle.net_workers.specs.Offering.{ended_by, OffersAt};
 
 use crate::sleepers::Sleepers;
-use offer_board::{BoardState, CollectError, Made};
+use offer_board::{BoardState, CollectError, Made, two_copies};
 use ranked_policy::Network;
 use snap_marker::Offer;
 use std::alloc::{AllocError, Global};
@@ -57,25 +57,83 @@ fn ended_by(error: CollectError) -> WorkerFault
     }
 }
 
+// Copies of an offer: one for a worker, and those for its board. They are refused only if a growth was, here or with the
+// caller.
+fn copies_of(
+    alloc: Global,
+    offer: &Offer,
+    room: Result<(), AllocError>,
+) -> Result<(Offer, (Offer, Offer)), AllocError>
+    ensures offer { IfOk result (λ copies. offer_of copies.0 ≡ offer_of offer.now) }
+    ensures router { IfOk result (λ copies. router_of copies.0 ≡ router_of offer.now) }
+    ensures others { IfOk result (λ copies. AreCopies offer.now copies.1) }
+    ensures full { OnErr room (IsErr result) }
+{
+    room?;
+    let own = offer.copied(alloc)?;
+    let copies = two_copies(alloc, offer)?;
+    Ok((own, copies))
+}
+
+// What a board answers to an offer of which there are no copies.
+fn refused(
+    board: &mut BoardState,
+    stamp: u64,
+    offer: &Offer,
+    error: AllocError,
+) -> Result<u64, WorkerFault>
+    ensures offers { OffersAt board.old board.new stamp offer.now result }
+    ensures refused { IsErr result }
+{
+    match board.keep(stamp, offer, Err(error)) {
+        Ok(_) => unreachable!(),
+        Err(why) => Err(ended_by(why)),
+    }
+}
+
 impl BoardSeat {
-    // A copy of an offer, for which there is room. It is refused only if a growth was, here or with the caller.
-    fn prepared(&mut self, offer: &Offer, room: Result<(), AllocError>) -> Result<Offer, AllocError>
-        ensures made { self.new.made.items ≡ self.old.made.items }
-        ensures room { OnOk result (vec_len self.new.made < vec_capacity self.new.made) }
-        ensures offer { IfOk result (λ copy. offer_of copy ≡ offer_of offer.now) }
-        ensures router { IfOk result (λ copy. router_of copy ≡ router_of offer.now) }
-        ensures full { OnErr room (IsErr result) }
+    // Makes an offer as `offer_at` does, of which copies were made before: no other worker waits at the board for them.
+    // If there are none, the board is asked as if there were no room.
+    fn offer_copies(
+        &mut self,
+        board: &mut BoardState,
+        stamp: u64,
+        offer: &Offer,
+        copies: Result<(Offer, (Offer, Offer)), AllocError>,
+    ) -> Result<u64, WorkerFault>
+        requires offer { IfOk copies (λ copies. offer_of copies.0 ≡ offer_of offer.now) }
+        requires router { IfOk copies (λ copies. router_of copies.0 ≡ router_of offer.now) }
+        requires others { IfOk copies (λ copies. AreCopies offer.now copies.1) }
+        ensures offers { OffersAt board.old board.new stamp offer.now result }
+        ensures made { IfOk result
+            (λ at. collected_in self.new.made.items
+            ≡ with_offer (collected_in self.old.made.items) at (made_by offer.now)) }
+        ensures later { IfOk result (λ at. stamp < at) }
+        ensures few { IfOk result (λ at. at ≤ GREATEST_STAMP) }
+        ensures full { OnErr copies (IsErr result) }
     {
-        room?;
-        self.made.reserve(1)?;
-        offer.copied(*self.made.allocator())
+        match copies {
+            Ok((own, copies)) => {
+                if let Err(error) = self.made.reserve(1) {
+                    return refused(board, stamp, offer, error);
+                }
+                match board.keep(stamp, offer, Ok(copies)) {
+                    Ok((_taken, stamp)) => {
+                        self.made.push_reserved(Made { stamp, offer: own });
+                        Ok(stamp)
+                    }
+                    Err(error) => Err(ended_by(error)),
+                }
+            }
+            Err(error) => refused(board, stamp, offer, error),
+        }
     }
 
     /// Makes an offer at a board, of a router whose last event has the given stamp, and answers the offer's stamp.
     ///
     /// Refused with [`WorkerFault::Memory`] if the board refuses for want of memory, and with [`WorkerFault::Refused`]
-    /// if it refuses for another reason, which comes first. `room` is as for [`Desk::offer`]; if no copy can be made
-    /// for the worker, the board is asked as if there were none. A refusal leaves the board as it was.
+    /// if it refuses for another reason, which comes first. `room` is as for [`Desk::offer`]; if no copies can be made
+    /// for the worker and the board, the board is asked as if there were no room. A refusal leaves the board as it was.
     pub fn offer_at(
         &mut self,
         board: &mut BoardState,
@@ -91,19 +149,8 @@ impl BoardSeat {
         ensures few { IfOk result (λ at. at ≤ GREATEST_STAMP) }
         ensures full { OnErr room (IsErr result) }
     {
-        let own = self.prepared(offer, room);
-        let room = match &own {
-            Ok(_) => Ok(()),
-            Err(error) => Err(*error),
-        };
-        match board.offer(stamp, offer, room) {
-            Ok((_taken, stamp)) => {
-                let Ok(offer) = own else { unreachable!() };
-                self.made.push_reserved(Made { stamp, offer });
-                Ok(stamp)
-            }
-            Err(error) => Err(ended_by(error)),
-        }
+        let copies = copies_of(*self.made.allocator(), offer, room);
+        self.offer_copies(board, stamp, offer, copies)
     }
 }
 
@@ -120,8 +167,9 @@ impl Desk for BoardSeat {
         offer: &Offer,
         room: Result<(), AllocError>,
     ) -> Result<u64, WorkerFault> {
+        let copies = copies_of(*self.made.allocator(), offer, room);
         let mut board = board.state.lock(rt);
-        self.offer_at(&mut board, stamp, offer, room)
+        self.offer_copies(&mut board, stamp, offer, copies)
     }
 
     fn pause<R: Wait>(&self, rt: &R, board: &Board, between: &Between<'_>) -> bool {

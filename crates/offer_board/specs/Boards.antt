@@ -3,7 +3,7 @@ use Rattle.std.specs.Prelude.{ℕ, ◌≡◌, ◌≤◌, ◌<◌, ◌+◌, max, 
 use Rattle.std.specs.List.{AllByRecursion}
 use Rattle.run_model.specs.declared.stamps.TheConstants.{GREATEST_STAMP}
 use Rattle.run_model.specs.Stamps.{Collected, Pairwise}
-use Rattle.snap_marker.specs.Parts.{router_of}
+use Rattle.snap_marker.specs.Parts.{router_of, offer_of}
 use Rattle.snap_marker.specs.Recordings.{MadeOffer}
 use Rattle.snap_marker.specs.declared.part.Offer.{Offer}
 use Rattle.snap_collector.specs.declared.answer.Taken.{Taken}
@@ -38,6 +38,14 @@ pub record IsBoard (x : BoardView) : Type 0 where
   pub last : AllByRecursion (λ m. m.stamp ≤ x.stamp) x.offers
   pub few : x.stamp ≤ GREATEST_STAMP
   pub kept : (s : ℕ) → IsKeptOf (map member_of x.collector.members) s (offers_in x.offers) (made_for x.collector s)
+
+-- the second offer says the same as the first, and is of the same router
+pub record SaysSame (o p : Offer) : Type 0 where
+  pub router : router_of p ≡ router_of o
+  pub offer : offer_of p ≡ offer_of o
+
+abbrev pub AreCopies : Offer → Offer × Offer → Type 0
+AreCopies o copies = SaysSame o copies.0 × SaysSame o copies.1
 
 -- an offer joins those that were made, with this stamp
 pub record Joins (x y : BoardView) (after : ℕ) (o : Offer) (taken : Taken) (at : ℕ) : Type 0 where

@@ -2,7 +2,7 @@
 
 ghost use Rattle.std.specs.Prelude.{◌≡◌, [], IfOk, OnErr, IsErr};
 ghost use Rattle.snap_collector.specs.Collector.{AreMembers};
-ghost use Rattle.offer_board.specs.Boards.{BoardView, IsBoard, Offers};
+ghost use Rattle.offer_board.specs.Boards.{BoardView, IsBoard, AreCopies, Offers};
 
 use ranked_policy::Network;
 use run_model::GREATEST_STAMP;
@@ -39,6 +39,13 @@ impl Model for BoardState {
     ghost invariant = { λ b. IsBoard (record { collector = b.collector; offers = b.offers.items; stamp = b.stamp }) };
 }
 
+/// Two copies of an offer, as [`BoardState::keep`] takes them. It is refused only for want of memory.
+pub fn two_copies(alloc: Global, offer: &Offer) -> Result<(Offer, Offer), AllocError>
+    ensures { IfOk result (AreCopies offer.now) }
+{
+    Ok((offer.copied(alloc)?, offer.copied(alloc)?))
+}
+
 impl BoardState {
     /// The board of a network, with nothing offered. It is refused only for want of memory.
     pub fn new(alloc: Global, network: &Network) -> Result<BoardState, AllocError>
@@ -72,6 +79,24 @@ impl BoardState {
         ensures full { OnErr room (IsErr result) }
         ensures members { self.new.collector.members ≡ self.old.collector.members }
     {
+        let alloc = *self.offers.allocator();
+        let copies = room.and_then(|()| two_copies(alloc, offer));
+        self.keep(stamp, offer, copies)
+    }
+
+    /// Takes an offer as [`BoardState::offer`] does, and keeps these copies of it, so that whoever waits for the board
+    /// does not wait for them to be made. Refused as there; `copies` stands for the room too.
+    pub fn keep(
+        &mut self,
+        stamp: u64,
+        offer: &Offer,
+        copies: Result<(Offer, Offer), AllocError>,
+    ) -> Result<(Taken, u64), CollectError>
+        requires { IfOk copies (AreCopies offer.now) }
+        ensures offers { Offers self.old self.new stamp offer.now result }
+        ensures full { OnErr copies (IsErr result) }
+        ensures members { self.new.collector.members ≡ self.old.collector.members }
+    {
         kept_goes_on();
         if let Some(error) = self.collector.refusal(offer) {
             return Err(error);
@@ -80,10 +105,8 @@ impl BoardState {
         if stamp > GREATEST_STAMP {
             return Err(CollectError::StampEnd);
         }
-        room?;
+        let (copy, collected) = copies?;
         self.offers.reserve(1)?;
-        let copy = offer.copied(*self.offers.allocator())?;
-        let collected = offer.copied(*self.offers.allocator())?;
         let taken = self.collector.offer(collected)?;
         self.offers.push_reserved(Made { stamp, offer: copy });
         self.stamp = stamp;

@@ -9,6 +9,6 @@
 mod board;
 mod same;
 
-pub use board::{BoardState, Made};
+pub use board::{BoardState, Made, two_copies};
 pub use same::{made_by_same, same_offer};
 pub use snap_collector::{CollectError, Taken};
