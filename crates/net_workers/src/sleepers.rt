@@ -11,7 +11,7 @@
 //!
 //! No clause speaks of it: a worker that sleeps does nothing, and what it does later is what its chores say.
 
-use crossbeam_utils::Backoff;
+use crossbeam_utils::{Backoff, CachePadded};
 use ranked_policy::{Asn, Network};
 use std::alloc::{AllocError, Global};
 use std::sync::Wait;
@@ -51,7 +51,8 @@ const NAP: u64 = 4;
 
 const NAPS: u32 = 250;
 
-// What others know of a worker.
+// What others know of a worker. What it writes for each chore stands on cache lines of its own, since peers read the
+// rest.
 #[derive(Drop)]
 struct Bed {
     state: AtomicU64,
@@ -59,9 +60,9 @@ struct Bed {
     is_blocked: AtomicBool,
     // How many chores stood in front of its next that is no Turn, as it fell asleep.
     due: AtomicU64,
-    // How many chores it was given as it last did something.
-    given: AtomicU64,
     parker: Parker,
+    // How many chores it was given as it last did something.
+    given: CachePadded<AtomicU64>,
 }
 
 fn new_bed() -> Bed {
@@ -69,8 +70,8 @@ fn new_bed() -> Bed {
         state: AtomicU64::new(AWAKE),
         is_blocked: AtomicBool::new(false),
         due: AtomicU64::new(NEVER),
-        given: AtomicU64::new(0),
         parker: Parker::new(),
+        given: CachePadded::new(AtomicU64::new(0)),
     }
 }
 
@@ -95,9 +96,9 @@ fn yield_where(idle: bool) {
 pub struct Sleepers {
     // The numbers of the routers, rising, and what others know of their workers.
     routers: Vec<Asn>,
-    beds: Vec<Bed>,
+    beds: Vec<CachePadded<Bed>>,
     // How many workers have not ended and do not sleep.
-    awake: AtomicU64,
+    awake: CachePadded<AtomicU64>,
     mode: AtomicU64,
 }
 
@@ -108,9 +109,9 @@ impl Sleepers {
         let mut beds = Vec::new(alloc);
         for router in network.routers() {
             routers.push(router.asn)?;
-            beds.push(new_bed())?;
+            beds.push(CachePadded::new(new_bed()))?;
         }
-        let awake = AtomicU64::new(beds.len() as u64);
+        let awake = CachePadded::new(AtomicU64::new(beds.len() as u64));
         Ok(Sleepers {
             routers,
             beds,
@@ -121,7 +122,8 @@ impl Sleepers {
 
     fn bed(&self, router: Asn) -> Option<&Bed> {
         let place = self.routers.as_slice().binary_search(&router).ok()?;
-        self.beds.as_slice().get(place)
+        let bed = self.beds.as_slice().get(place)?;
+        Some(bed)
     }
 
     /// Whether workers still sleep if they find no work.
@@ -230,7 +232,7 @@ impl Sleepers {
     // Whether a worker did something behind as many chores.
     fn is_passed(&self, due: u64) -> bool {
         let mut beds = self.beds.iter();
-        beds.any(|bed| bed.given.load(Ordering::SeqCst) >= due)
+        due != NEVER && beds.any(|bed| bed.given.load(Ordering::SeqCst) >= due)
     }
 
     // Whether a worker that fell asleep sleeps on.
@@ -238,18 +240,23 @@ impl Sleepers {
         bed.state.load(Ordering::SeqCst) == ASLEEP && self.is_at_rest()
     }
 
-    // Naps until another worker has done something, and answers whether this one sleeps on. If no worker does anything,
-    // it ends the rest of all.
+    // Naps until it is woken, or another worker has done something between two naps, and answers whether it sleeps on.
+    // If no worker does anything, it ends the rest of all.
     fn naps<R: Wait>(&self, rt: &R, bed: &Bed, due: u64) -> bool {
-        let before = self.given_in_all();
+        let mut before = NEVER;
         for _ in 0..NAPS {
             if !self.is_asleep(bed) || self.is_passed(due) {
                 return false;
             }
             bed.parker.park_timeout(rt, Duration::from_millis(NAP));
-            if self.given_in_all() != before {
+            if !self.is_asleep(bed) {
+                return false;
+            }
+            let given = self.given_in_all();
+            if before != NEVER && given != before {
                 return true;
             }
+            before = given;
         }
         self.end_rest(HURRIED);
         false
