@@ -7,8 +7,9 @@ pub mod PlanLemmas
 pub mod TableLemmas
 pub mod Reached
 pub mod WaysOn
-mod TestLemmas
+pub mod TestLemmas
 pub mod PlaceLemmas
 mod WayLemmas
 mod PeerLemmas
 pub mod OneTable
+pub mod ChoiceLemmas

@@ -16,14 +16,6 @@ all_fails P xs i x l read fails = (λ t. absurd (false≢true t), λ all. absurd
 pub all_done : {X : Type 0} (P : X → Type 0) (xs : List X) (i : ℕ) → length xs ≤ i → All P (take i xs) → IsTrue true ↔ All P xs
 all_done P xs i l all = (λ t. subst (All P) (take_all i xs l) all, λ h. refl)
 
-pub any_found : {X : Type 0} (P : X → Type 0) (xs : List X) (i : ℕ) (x : X) → i < length xs → x ≡ get_or xs i x → P x → IsTrue true ↔ Any P xs
-any_found P xs i x l read p = (λ t. (i, x, l, sym read, p), λ h. refl)
-
-pub any_none : {X : Type 0} (P : X → Type 0) (xs : List X) (i : ℕ) → length xs ≤ i → All (λ x. P x → ⊥) (take i xs) → IsTrue false ↔ Any P xs
-any_none P xs i l all =
-    let none : All (λ x. P x → ⊥) xs = subst (All (λ x. P x → ⊥)) (take_all i xs l) all in
-    (λ t. absurd (false≢true t), λ any. absurd (none any.0 any.1 any.2 (subst P (sym any.3) any.4)))
-
 -- `Contains` as `Any`
 pub contains_any : {X : Type 0} (xs : List X) (y : X) → Contains xs y → Any (λ x. x ≡ y) xs
 contains_any xs y h = (h.0, y, h.1, h.2, refl)
@@ -51,8 +43,3 @@ pairs_done R xs i l all = (λ t. subst (AllPairs R) (take_all i xs l) all, λ h.
 
 pub apart_from : {X : Type 0} (xs : List X) (x : X) → (Contains xs x → ⊥) → All (λ y. y ≡ x → ⊥) xs
 apart_from xs x none k d l e = none (k, l, get_or_default xs k x d l ∙ e)
-
-pub again : {X : Type 0} (xs : List X) (i : ℕ) (x : X) → i < length xs → x ≡ get_or xs i x → Contains (take i xs) x → IsTrue false ↔ AllPairs (λ u v. u ≡ v → ⊥) xs
-again xs i x l read h =
-    let below : h.0 < i = omega (arith, h.1, length-take-le i xs (omega (arith, l))) in
-    (λ t. absurd (false≢true t), λ pairs. absurd (pairs h.0 i x below l (sym (get_or-take i xs h.0 x below) ∙ h.2 ∙ read)))

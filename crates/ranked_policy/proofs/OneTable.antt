@@ -2,7 +2,7 @@
 use Rattle.std.proofs.Common.{◌≡◌, ℕ, zero, suc, ◌<◌, List, [], ◌∷◌, length, get_or, refl, sym, ap, subst, ◌∙◌, arith, inl, inr}
 use Rattle.std.specs.List.{AllPairs}
 use Rattle.std.proofs.lemmas.Bool.{cases_order}
-use Rattle.std.proofs.lemmas.List.{length-map, get_or-map}
+use Rattle.std.proofs.lemmas.List.{length-map, get_or-map, get_or_default}
 use Rattle.ranked_policy.specs.declared.network.NetRouter.{NetRouter}
 use Rattle.ranked_policy.specs.declared.network.RankRule.{RankRule}
 use Rattle.ranked_policy.specs.declared.network.Origin.{Origin}
@@ -18,16 +18,10 @@ same_place routers i j d rising lt below e =
     let up : get_or (numbers routers) i 0 < get_or (numbers routers) j 0 = rising i j 0 lt (omega (arith, size, below)) in
     omega (arith, up, first, next, e)
 
--- an item inside a list is the same whatever stands for one outside
-pub within : {X : Type 0} (xs : List X) (i : ℕ) (d e : X) → i < length xs → get_or xs i d ≡ get_or xs i e
-within [] i d e lt = absurd (omega (arith, lt))
-within (x ∷ xs) zero d e lt = refl
-within (x ∷ xs) (suc i) d e lt = within xs i d e (omega (arith, lt))
-
 same_router : (routers : List NetRouter) (i j : ℕ) (r s : NetRouter) → AllPairs (λ u v. u < v) (numbers routers) → i < length routers → j < length routers → get_or routers i r ≡ r → get_or routers j s ≡ s
     → r.asn ≡ s.asn → r ≡ s
 same_router routers i j r s rising lt below is also e =
-    let mine : get_or routers i s ≡ r = within routers i s r lt ∙ is in
+    let mine : get_or routers i s ≡ r = get_or_default routers i s r lt ∙ is in
     elim (cases_order i j) [
       | inl same ↦ sym mine ∙ ap (λ (k : ℕ). get_or routers k s) same ∙ also
       | inr differ ↦ elim differ [

@@ -147,9 +147,6 @@ pub prefix_missing : (origins : List Origin) (q : PrefixView) (i : ℕ) → i �
 prefix_missing origins q i l before behind is =
     none_of_both (λ o. o.prefix ≡ q) origins i l (λ k d m e. before_self q (subst (λ p. IsBefore p q) e (before k d m))) (λ k d m e. before_self q (subst (IsBefore q) e (behind k d m))) is
 
-pub origin_at : (origins : List Origin) (q : PrefixView) (i : ℕ) (o : Origin) → i < length origins → HoldsAt (λ x. x.prefix ≡ q) origins i → o ≡ get_or origins i o → IsOrigin origins o.router q
-origin_at origins q i o l is at = (i, o, l, sym at, (ap (λ x. x.prefix) at ∙ is o, refl))
-
 pub one_origin : (origins : List Origin) (q : PrefixView) (u v : ℕ) → AllPairs (λ a b. IsBefore a.prefix b.prefix) origins → IsOrigin origins u q → IsOrigin origins v q → u ≡ v
 one_origin origins q u v rising a b =
     let same : a.1 ≡ b.1 = one_of (λ o. o.prefix) origins a.0 b.0 a.1 b.1 (prefixes_differ origins rising) a.2 b.2 a.3 b.3 (a.4.0 ∙ sym b.4.0) in

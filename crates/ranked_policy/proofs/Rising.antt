@@ -8,19 +8,6 @@ use Rattle.std.proofs.lemmas.Bool.{cases_order}
 use Rattle.prefix_lanes.specs.Bits.{PrefixView}
 use Rattle.ranked_policy.specs.Plans.{IsBefore}
 
-rest_at : {X : Type 0} (R : X → X → Type 0) (P : X → Type 0) (xs : List X) (i : ℕ) (x : X) (k : ℕ) (d : X) → i < length xs → x ≡ get_or xs i x → AllPairs R xs → P x → ((y : X) → R x y → P y) → i + k < length xs → P (get_or xs (i + k) d)
-rest_at R P xs i x zero d l read pairs here on inside =
-    let same : x ≡ get_or xs (i + 0) d = read ∙ get_or_default xs i x d l ∙ ap (λ j. get_or xs j d) (omega arith) in
-    subst P same here
-rest_at R P xs i x (suc k) d l read pairs here on inside =
-    let later : R (get_or xs i d) (get_or xs (i + suc k) d) = pairs i (i + suc k) d (omega arith) inside in
-    on (get_or xs (i + suc k) d) (subst (λ z. R z (get_or xs (i + suc k) d)) (sym (read ∙ get_or_default xs i x d l)) later)
-
--- from a place on, all are related to what the element there is related to
-pub rest_of : {X : Type 0} (R : X → X → Type 0) (P : X → Type 0) (xs : List X) (i : ℕ) (x : X) → i < length xs → x ≡ get_or xs i x → AllPairs R xs → P x → ((y : X) → R x y → P y) → All P (drop i xs)
-rest_of R P xs i x l read pairs here on k d inside =
-    subst P (sym (get_or-drop i xs k d)) (rest_at R P xs i x k d l read pairs here on (omega (arith, inside, length-drop i xs)))
-
 pub pairs_head : {X : Type 0} (R : X → X → Type 0) (x : X) (xs : List X) → AllPairs R (x ∷ xs) → All (R x) xs
 pairs_head R x xs pairs k d l = pairs 0 (suc k) d (omega arith) (omega (arith, l))
 
@@ -49,15 +36,6 @@ before_trans p q r g h = elim g [
 
 pub before_self : (p : PrefixView) → IsBefore p p → ⊥
 before_self p h = elim h [ inl l ↦ omega (arith, l) | inr s ↦ omega (arith, s.1) ]
-
-pub before_from : (p q : PrefixView) → (p ≡ q → ⊥) → (IsBefore q p → ⊥) → IsBefore p q
-before_from p q differ not_after = elim (cases_order p.addr q.addr) [
-  | inl same ↦ elim (cases_order p.len q.len) [
-    | inl also ↦ absurd (differ (ap (λ a. record { addr = a; len = p.len }) same ∙ ap (λ l. record { addr = q.addr; len = l }) also))
-    | inr lens ↦ elim lens [ inl below ↦ inr (same, below) | inr above ↦ absurd (not_after (inr (sym same, above))) ]
-  ]
-  | inr addrs ↦ elim addrs [ inl below ↦ inl below | inr above ↦ absurd (not_after (inl above)) ]
-]
 
 -- what is said of a list that is read by a function
 pub pairs_unmap : {X Y : Type 0} (f : X → Y) (R : Y → Y → Type 0) (xs : List X) → AllPairs R (map f xs) → AllPairs (λ x y. R (f x) (f y)) xs

@@ -61,7 +61,7 @@ one_rule has_length once all u rules are q rule other h g =
     front_of rule.prefix q rule.prefix.len (has_length rule.prefix canonical).0 h.covers ∙ sym (front_of other.prefix q rule.prefix.len ((has_length other.prefix canonical').0 ∙ lens) g.covers) in
     one_of (λ r. r.prefix) rules h.listed.0 g.listed.0 rule other are.distinct h.listed.1 g.listed.1 h.listed.2 g.listed.2 (once rule.prefix other.prefix canonical canonical' same_bits)
 
-rule_or_none : {A : Type 0} (rules : List RankRule) (q : PrefixView) (rule : RankRule) → IsRuleFor rules q rule → NoRuleFor rules q → A
+pub rule_or_none : {A : Type 0} (rules : List RankRule) (q : PrefixView) (rule : RankRule) → IsRuleFor rules q rule → NoRuleFor rules q → A
 rule_or_none rules q rule h none = absurd (All-contains (λ r. Covers r.prefix q → ⊥) rules rule none h.listed h.covers)
 
 -- the router originates the prefix

@@ -5,7 +5,7 @@ use Rattle.std.specs.Bool.{Decides}
 use Rattle.std.specs.List.{Any, Contains, list_any}
 use mathlib.Core.Logic.{◌⊎◌}
 use mathlib.Core.List.{IsPrefix}
-use Rattle.std.proofs.lemmas.Bool.Decides.{nat_tests}
+use Rattle.std.proofs.lemmas.Bool.Decides.{nat_tests, Decides-and, Decides-or, Decides-eqb}
 use Rattle.std.proofs.lemmas.Bool.{false≢true}
 use Rattle.std.proofs.lemmas.List.{get_or_default}
 use Rattle.std.proofs.lemmas.List.Folds.{Any-from_list_any, list_any-from_Any}
@@ -22,17 +22,9 @@ use Rattle.ranked_policy.specs.Promises.{OneRule}
 use Rattle.ranked_policy.specs.Tests as test
 use Rattle.ranked_policy.specs.Tests.{PermitsIsATest, PrefersIsATest, IsFirstOf, BestIsFirst}
 use Rattle.ranked_policy.proofs.Rising.{pairs_head, pairs_tail}
-use Rattle.ranked_policy.proofs.TableLemmas.{each_one_rule, each_policy_is_an_order}
+use Rattle.ranked_policy.proofs.TableLemmas.{rule_or_none, each_one_rule, each_policy_is_an_order}
 
 -- ---- tests put together
-
-both : {P Q : Type 0} (a b : Bool) → Decides a P → Decides b Q → Decides (a && b) (P × Q)
-both true b p q = (λ t. (p.0 refl, q.0 t), λ h. q.1 h.1)
-both false b p q = (λ t. absurd (false≢true t), λ h. absurd (false≢true (p.1 h.0)))
-
-either : {P Q : Type 0} (a b : Bool) → Decides a P → Decides b Q → Decides (a || b) (P ⊎ Q)
-either true b p q = (λ t. inl (p.0 refl), λ h. refl)
-either false b p q = (λ t. inr (q.0 t), λ h. elim h [ inl x ↦ absurd (false≢true (p.1 x)) | inr y ↦ q.1 y ])
 
 denied : {P : Type 0} (a : Bool) → Decides a P → Decides (not a) (P → ⊥)
 denied true p = (λ t. absurd (false≢true t), λ never. absurd (never (p.0 refl)))
@@ -47,9 +39,6 @@ lt_test a b = (λ t. grind (arith, nat_tests, t), λ l. grind (arith, nat_tests,
 le_test : (a b : ℕ) → Decides (nat_le a b) (a ≤ b)
 le_test a b = (λ t. grind (arith, nat_tests, t), λ l. grind (arith, nat_tests, l))
 
-eq_test : (a b : ℕ) → Decides (a == b) (a ≡ b)
-eq_test a b = (λ t. grind (arith, nat_tests, t), λ l. grind (arith, nat_tests, l))
-
 any_test : {X : Type 0} (p : X → Bool) (P : X → Type 0) (xs : List X) → ((x : X) → Decides (p x) (P x)) → Decides (list_any p xs) (Any P xs)
 any_test p P xs each = (
   λ t. let a = Any-from_list_any p xs t in (a.0, a.1, a.2, a.3, (each a.1).0 a.4),
@@ -63,8 +52,8 @@ contains_test {X} p each xs y = alike (list_any (λ x. p x y) xs) (any_test (λ 
 
 -- ---- prefixes
 
-prefix_test : (p q : PrefixView) → Decides (is_prefix p q) (p ≡ q)
-prefix_test p q = alike (is_prefix p q) (both (p.addr == q.addr) (p.len == q.len) (eq_test p.addr q.addr) (eq_test p.len q.len))
+pub prefix_test : (p q : PrefixView) → Decides (is_prefix p q) (p ≡ q)
+prefix_test p q = alike (is_prefix p q) (Decides-and (p.addr == q.addr) (p.len == q.len) (Decides-eqb p.addr q.addr) (Decides-eqb p.len q.len))
     (λ h. λ i. record { addr = h.0 i; len = h.1 i }) (λ e. (ap (λ x. x.addr) e, ap (λ x. x.len) e))
 
 bit_test : (x y : Bool) → Decides (test.same_bit x y) (x ≡ y)
@@ -76,7 +65,7 @@ bit_test false false = (λ t. refl, λ e. refl)
 begins_test : (xs ys : List Bool) → Decides (test.begins_with xs ys) (IsPrefix xs ys)
 begins_test [] ys = (λ t. (ys, refl), λ h. refl)
 begins_test (x ∷ xs) [] = (λ t. absurd (false≢true t), λ h. absurd (cc (h.1)))
-begins_test (x ∷ xs) (y ∷ ys) = alike (test.same_bit x y && test.begins_with xs ys) (both (test.same_bit x y) (test.begins_with xs ys) (bit_test x y) (begins_test xs ys))
+begins_test (x ∷ xs) (y ∷ ys) = alike (test.same_bit x y && test.begins_with xs ys) (Decides-and (test.same_bit x y) (test.begins_with xs ys) (bit_test x y) (begins_test xs ys))
     (λ h. (h.1.0, joined h.1.0 h.0 h.1.1))
     (λ h. (let e : x ≡ y = cc (h.1) in e, (h.0, cc (h.1))))
   where
@@ -92,16 +81,16 @@ path_test : (a b : List ℕ) → Decides (test.same_path a b) (a ≡ b)
 path_test [] [] = (λ t. refl, λ e. refl)
 path_test [] (v ∷ vs) = (λ t. absurd (false≢true t), λ e. absurd (cc e))
 path_test (u ∷ us) [] = (λ t. absurd (false≢true t), λ e. absurd (cc e))
-path_test (u ∷ us) (v ∷ vs) = alike ((u == v) && test.same_path us vs) (both (u == v) (test.same_path us vs) (eq_test u v) (path_test us vs))
+path_test (u ∷ us) (v ∷ vs) = alike ((u == v) && test.same_path us vs) (Decides-and (u == v) (test.same_path us vs) (Decides-eqb u v) (path_test us vs))
     (λ h. (let a = h.0 in let b = h.1 in cc (a, b))) (λ e. (let a : u ≡ v = cc e in a, let b : us ≡ vs = cc e in b))
 
 starts_test : (u : ℕ) (path : List ℕ) → Decides (test.starts_at u path) (BeginsWith path u)
 starts_test u [] = (λ t. absurd (false≢true t), λ h. absurd (cc (h.1)))
-starts_test u (v ∷ vs) = alike (v == u) (eq_test v u) (λ e. (vs, ap (λ x. x ∷ vs) e)) (λ h. (let a : v ≡ u = cc (h.1) in a))
+starts_test u (v ∷ vs) = alike (v == u) (Decides-eqb v u) (λ e. (vs, ap (λ x. x ∷ vs) e)) (λ h. (let a : v ≡ u = cc (h.1) in a))
 
 simple_test : (path : List ℕ) → Decides (test.is_simple path) (IsSimple path)
 simple_test [] = (λ t. λ i j d l m. absurd (omega (arith, m)), λ h. refl)
-simple_test (u ∷ us) = alike (not (list_any (λ v. v == u) us) && test.is_simple us) (both (not (list_any (λ v. v == u) us)) (test.is_simple us) (denied (list_any (λ v. v == u) us) (any_test (λ v. v == u) (λ v. v ≡ u) us (λ v. eq_test v u))) (simple_test us))
+simple_test (u ∷ us) = alike (not (list_any (λ v. v == u) us) && test.is_simple us) (Decides-and (not (list_any (λ v. v == u) us)) (test.is_simple us) (denied (list_any (λ v. v == u) us) (any_test (λ v. v == u) (λ v. v ≡ u) us (λ v. Decides-eqb v u))) (simple_test us))
     (λ h. AllPairs-cons (λ a b. a ≢ b) u us (λ k d l e. h.0 (k, get_or us k d, l, get_or_default us k (get_or us k d) d l, sym e)) h.1)
     (λ pairs. (λ any. pairs_head (λ a b. a ≢ b) u us pairs any.0 any.1 any.2 (sym (any.3 ∙ any.4)), pairs_tail (λ a b. a ≢ b) u us pairs))
 
@@ -130,15 +119,15 @@ ends_test p P each (u ∷ v ∷ vs) = alike (test.ends_at p (v ∷ vs)) (ends_te
 route_test : (u : ℕ) (p : ℕ → Bool) (P : ℕ → Type 0) → ((v : ℕ) → Decides (p v) (P v)) → (path : List ℕ) → Decides (test.is_route u p path) (IsRoute u P path)
 route_test u p P each path =
     alike (test.is_route u p path)
-    (both (test.starts_at u path) (test.is_simple path && (nat_le (length path) 16 && test.ends_at p path)) (starts_test u path)
-    (both (test.is_simple path) (nat_le (length path) 16 && test.ends_at p path) (simple_test path) (both (nat_le (length path) 16) (test.ends_at p path) (le_test (length path) 16) (ends_test p P each path))))
+    (Decides-and (test.starts_at u path) (test.is_simple path && (nat_le (length path) 16 && test.ends_at p path)) (starts_test u path)
+    (Decides-and (test.is_simple path) (nat_le (length path) 16 && test.ends_at p path) (simple_test path) (Decides-and (nat_le (length path) 16) (test.ends_at p path) (le_test (length path) 16) (ends_test p P each path))))
     (λ h. record { begins = h.0; simple = h.1.0; short = h.1.1.0; ends = h.1.1.1 }) (λ r. (r.begins, (r.simple, (r.short, r.ends))))
 
 -- ---- which comes first
 
 above_test : (paths : List (List ℕ)) (a b : List ℕ) → Decides (test.comes_first paths a b) (Above paths a b)
 above_test [] a b = (λ t. absurd (false≢true t), λ h. absurd h)
-above_test (p ∷ ps) a b = both (not (test.same_path p b)) (test.same_path p a || test.comes_first ps a b) (denied (test.same_path p b) (path_test p b)) (either (test.same_path p a) (test.comes_first ps a b) (path_test p a) (above_test ps a b))
+above_test (p ∷ ps) a b = Decides-and (not (test.same_path p b)) (test.same_path p a || test.comes_first ps a b) (denied (test.same_path p b) (path_test p b)) (Decides-or (test.same_path p a) (test.comes_first ps a b) (path_test p a) (above_test ps a b))
 
 first_test : (paths : List (List ℕ)) (a b : List ℕ) → Decides (test.comes_first paths a b) (ComesFirst paths a b)
 first_test paths a b = alike (test.comes_first paths a b) (above_test paths a b) (first_from_above paths a b) (above_from_first paths a b)
@@ -146,11 +135,11 @@ first_test paths a b = alike (test.comes_first paths a b) (above_test paths a b)
 earlier_test : (a b : List ℕ) → Decides (test.comes_earlier a b) (Earlier a b)
 earlier_test [] b = (λ t. absurd (false≢true t), λ h. absurd h)
 earlier_test (x ∷ xs) [] = (λ t. absurd (false≢true t), λ h. absurd h)
-earlier_test (x ∷ xs) (y ∷ ys) = either (nat_lt x y) ((x == y) && test.comes_earlier xs ys) (lt_test x y) (both (x == y) (test.comes_earlier xs ys) (eq_test x y) (earlier_test xs ys))
+earlier_test (x ∷ xs) (y ∷ ys) = Decides-or (nat_lt x y) ((x == y) && test.comes_earlier xs ys) (lt_test x y) (Decides-and (x == y) (test.comes_earlier xs ys) (Decides-eqb x y) (earlier_test xs ys))
 
 shorter_test : (a b : List ℕ) → Decides (test.is_shorter a b) (IsShorter a b)
-shorter_test a b = either (nat_lt (length a) (length b)) ((length a == length b) && test.comes_earlier a b) (lt_test (length a) (length b))
-    (both (length a == length b) (test.comes_earlier a b) (eq_test (length a) (length b)) (alike (test.comes_earlier a b) (earlier_test a b) (comes_from_earlier a b) (earlier_from_comes a b)))
+shorter_test a b = Decides-or (nat_lt (length a) (length b)) ((length a == length b) && test.comes_earlier a b) (lt_test (length a) (length b))
+    (Decides-and (length a == length b) (test.comes_earlier a b) (Decides-eqb (length a) (length b)) (alike (test.comes_earlier a b) (earlier_test a b) (comes_from_earlier a b) (earlier_from_comes a b)))
 
 -- ---- the rule of a prefix
 
@@ -158,7 +147,7 @@ abbrev IsFound : List RankRule → PrefixView → Option RankRule → Type 0
 IsFound rules q None = NoRuleFor rules q
 IsFound rules q (Some rule) = IsRuleFor rules q rule
 
-contains_cons : {X : Type 0} (x : X) (xs : List X) (y : X) → Contains xs y → Contains (x ∷ xs) y
+pub contains_cons : {X : Type 0} (x : X) (xs : List X) (y : X) → Contains xs y → Contains (x ∷ xs) y
 contains_cons x xs y c = (suc c.0, omega (arith, c.1), c.2)
 
 here : {X : Type 0} (x : X) (xs : List X) → Contains (x ∷ xs) x
@@ -204,9 +193,6 @@ rule_found (rule ∷ rules) q = at (test.covers rule.prefix q) (covers_test rule
     at true c is = found_more rule rules q (test.rule_for rules q) is (c.0 refl)
     at false c is = found_same rule rules q (test.rule_for rules q) is (λ h. false≢true (c.1 h))
 
-none_or_rule : {A : Type 0} (rules : List RankRule) (q : PrefixView) (rule : RankRule) → IsRuleFor rules q rule → NoRuleFor rules q → A
-none_or_rule rules q rule is none = absurd (All-contains (λ r. Covers r.prefix q → ⊥) rules rule none is.listed is.covers)
-
 -- of the rules of a table, the longest that covers a prefix is the one that is found, and where none covers it none is found
 pub rule_is : OneRule → (t : Table) → IsTable t → (q : PrefixView) {A : Type 0} (what : A → RankRule) (r : Option A) → MatchOption r (NoRuleFor t.rules q) (λ x. IsRuleFor t.rules q (what x))
     → MatchOption r (test.rule_for t.rules q ≡ None) (λ x. test.rule_for t.rules q ≡ Some (what x))
@@ -214,27 +200,27 @@ rule_is one t table q what None none = at (test.rule_for t.rules q) (rule_found 
   where
     at : (found : Option RankRule) → IsFound t.rules q found → found ≡ None
     at None same = refl
-    at (Some other) found = none_or_rule t.rules q other found none
+    at (Some other) found = rule_or_none t.rules q other found none
 rule_is one t table q what (Some x) is = at (test.rule_for t.rules q) (rule_found t.rules q)
   where
     at : (found : Option RankRule) → IsFound t.rules q found → found ≡ Some (what x)
-    at None none = none_or_rule t.rules q (what x) is none
+    at None none = rule_or_none t.rules q (what x) is none
     at (Some other) found = ap Some (one t table q other (what x) found is)
 
 -- ---- a router's policy
 
-module _ (one : OneRule) (t : Table) (table : IsTable t) (q : PrefixView) where
-  origin_test : (u : ℕ) → Decides (test.originates t q u) (Originates t q u)
-  origin_test u = any_test (λ o. is_prefix o.prefix q && (o.router == u)) (λ o. (o.prefix ≡ q) × (o.router ≡ u)) t.origins
-      (λ o. both (is_prefix o.prefix q) (o.router == u) (prefix_test o.prefix q) (eq_test o.router u))
+pub origin_test : (t : Table) (q : PrefixView) (u : ℕ) → Decides (test.originates t q u) (Originates t q u)
+origin_test t q u = any_test (λ o. is_prefix o.prefix q && (o.router == u)) (λ o. (o.prefix ≡ q) × (o.router ≡ u)) t.origins
+    (λ o. Decides-and (is_prefix o.prefix q) (o.router == u) (prefix_test o.prefix q) (Decides-eqb o.router u))
 
+module _ (one : OneRule) (t : Table) (table : IsTable t) (q : PrefixView) where
   listed_test : (found : Option RankRule) (path : List ℕ) → IsFound t.rules q found → Decides (test.is_listed found path) (IsListed t.rules q path)
   listed_test None path none = (λ h. inr none, λ h. refl)
   listed_test (Some rule) path is = alike (list_any (λ p. test.same_path p path) rule.paths) (contains_test test.same_path path_test rule.paths path)
       (λ c. inl (rule, is, c))
       (λ h. elim h [
         | inl x ↦ subst (λ (r : RankRule). Contains r.paths path) (one t table q x.0 rule x.1 is) x.2
-        | inr none ↦ none_or_rule t.rules q rule is none
+        | inr none ↦ rule_or_none t.rules q rule is none
       ])
 
   abbrev Before : List ℕ → List ℕ → Type 0
@@ -242,15 +228,15 @@ module _ (one : OneRule) (t : Table) (table : IsTable t) (q : PrefixView) where
 
   before_test : (found : Option RankRule) (a b : List ℕ) → IsFound t.rules q found → Decides (test.comes_before found a b) (Before a b)
   before_test None a b none = alike (test.is_shorter a b) (shorter_test a b) (λ s. inr (none, s))
-      (λ h. elim h [ inl x ↦ none_or_rule t.rules q x.0 x.1 none | inr x ↦ x.1 ])
+      (λ h. elim h [ inl x ↦ rule_or_none t.rules q x.0 x.1 none | inr x ↦ x.1 ])
   before_test (Some rule) a b is = alike (test.comes_first rule.paths a b) (first_test rule.paths a b) (λ f. inl (rule, is, f))
       (λ h. elim h [
         | inl x ↦ subst (λ (r : RankRule). ComesFirst r.paths a b) (one t table q x.0 rule x.1 is) x.2
-        | inr x ↦ none_or_rule t.rules q rule is x.0
+        | inr x ↦ rule_or_none t.rules q rule is x.0
       ])
 
   permits_test : (path : List ℕ) → Decides (test.permits t q path) (IsPermitted t q path)
-  permits_test path = at (test.originates t q t.router) (origin_test t.router)
+  permits_test path = at (test.originates t q t.router) (origin_test t q t.router)
     where
       found : IsFound t.rules q (test.rule_for t.rules q)
       found = rule_found t.rules q
@@ -259,12 +245,12 @@ module _ (one : OneRule) (t : Table) (table : IsTable t) (q : PrefixView) where
           → Decides (cond b (test.same_path path (t.router ∷ [])) (test.is_route t.router (test.originates t q) path && test.is_listed (test.rule_for t.rules q) path)) (IsPermitted t q path)
       at true o = alike (test.same_path path (t.router ∷ [])) (path_test path (t.router ∷ [])) (λ e. inl (o.0 refl, e)) (λ h. elim h [ inl x ↦ x.1 | inr x ↦ absurd (x.0 (o.0 refl)) ])
       at false o = alike (test.is_route t.router (test.originates t q) path && test.is_listed (test.rule_for t.rules q) path)
-          (both (test.is_route t.router (test.originates t q) path) (test.is_listed (test.rule_for t.rules q) path)
-          (route_test t.router (test.originates t q) (Originates t q) (λ u. origin_test u) path) (listed_test (test.rule_for t.rules q) path found))
+          (Decides-and (test.is_route t.router (test.originates t q) path) (test.is_listed (test.rule_for t.rules q) path)
+          (route_test t.router (test.originates t q) (Originates t q) (λ u. origin_test t q u) path) (listed_test (test.rule_for t.rules q) path found))
           (λ h. inr ((λ is. false≢true (o.1 is)), h.0, h.1)) (λ h. elim h [ inl x ↦ absurd (false≢true (o.1 x.0)) | inr x ↦ (x.1, x.2) ])
 
   prefers_test : (a b : List ℕ) → Decides (test.prefers t q a b) (IsPreferred t q a b)
-  prefers_test a b = both (not (test.originates t q t.router)) (test.comes_before (test.rule_for t.rules q) a b) (denied (test.originates t q t.router) (origin_test t.router))
+  prefers_test a b = Decides-and (not (test.originates t q t.router)) (test.comes_before (test.rule_for t.rules q) a b) (denied (test.originates t q t.router) (origin_test t q t.router))
       (before_test (test.rule_for t.rules q) a b (rule_found t.rules q))
 
   -- ---- the best of some choices
@@ -314,7 +300,7 @@ module _ (one : OneRule) (t : Table) (table : IsTable t) (q : PrefixView) where
     pub best_is : (cs : List (List ℕ)) → IsBestOf cs (test.best_of t q cs)
     best_is [] = inr (refl, λ other has may. absurd (let l = has.1 in omega (arith, l)))
     best_is (c ∷ cs) = at (test.permits t q c && (test.same_path best [] || test.prefers t q c best))
-        (both (test.permits t q c) (test.same_path best [] || test.prefers t q c best) (permits_test c) (either (test.same_path best []) (test.prefers t q c best) (path_test best []) (prefers_test c best)))
+        (Decides-and (test.permits t q c) (test.same_path best [] || test.prefers t q c best) (permits_test c) (Decides-or (test.same_path best []) (test.prefers t q c best) (path_test best []) (prefers_test c best)))
         (best_is cs)
       where
         best : List ℕ

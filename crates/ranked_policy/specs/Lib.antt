@@ -8,5 +8,6 @@ pub mod Adding
 pub mod Laws
 pub mod Promises
 pub mod Choosing
+pub mod Choices
 pub mod Reaching
 pub mod Tests

@@ -9,9 +9,11 @@
 //! policies, [`PolicyTable::for_prefix`] the policy for a prefix.
 //!
 //! The definitions stand in `specs/`: `Paths`, `Orders`, `Plans` (networks as plain data),
-//! `Policies` (permitted paths and their order), `Adding` (what each call adds and refuses).
+//! `Policies` (permitted paths and their order), `Choices` (the best of the paths that a router hears), `Adding` (what
+//! each call adds and refuses).
 //!
-//! Left out: choices among the paths heard, and stable assignments; texts; networks that change.
+//! [`Chosen::better_onward`] is a step of the choice among the paths that a router hears. Left out: whose paths those
+//! are, and stable assignments; texts; networks that change.
 #![tactic(auto)]
 
 mod admission;
@@ -38,8 +40,9 @@ pub use limits::{
     MOST_RULES,
 };
 pub use network::{Link, NetRouter, Network, Origin, RankRule, Settings};
+pub use onward::{is_onward, is_same_path};
 pub use path::{Asn, Path};
-pub use policy::{Chosen, Only, Policy, Ranked, Shortest};
+pub use policy::{Chosen, Only, Policy, Ranked, Shortest, is_listed};
 pub use refusal::NetError;
 pub use rules::Rules;
 pub use table::PolicyTable;

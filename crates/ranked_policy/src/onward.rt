@@ -2,6 +2,7 @@
 
 ghost use Rattle.std.specs.Prelude.{◌≡◌, ◌≢◌, ◌↔◌, ◌∷◌, ℕ, Some, IsTrue};
 ghost use Rattle.std.specs.List.{Contains};
+ghost use Rattle.ranked_policy.specs.Choices.{IsTaken, IsBetterWay};
 ghost use Rattle.ranked_policy.specs.Choosing.{chosen_permits, chosen_prefers};
 ghost use Rattle.ranked_policy.specs.Orders.{ComesFirst, IsShorter};
 ghost use Rattle.ranked_policy.specs.Paths.{IsSimple, EndsWith};
@@ -10,19 +11,19 @@ use crate::limits::LONGEST_PATH;
 use crate::path::{Asn, Path};
 use crate::policy::{Chosen, ends_at, is_shorter, is_simple};
 
-// Whether both have the same numbers in the same order.
-fn are_same(one: &[Asn], other: &[Asn]) -> bool
+/// Whether two paths are the same: the same numbers in the same order.
+pub fn is_same_path(one: &[Asn], other: &[Asn]) -> bool
     ensures { IsTrue result ↔ (one.now ≡ other.now) }
 {
     one == other
 }
 
-// Whether the path is the router and then the rest.
-fn is_onward(path: &Path, router: Asn, rest: &[Asn]) -> bool
+/// Whether a path is the router and then the rest.
+pub fn is_onward(path: &[Asn], router: Asn, rest: &[Asn]) -> bool
     ensures { IsTrue result ↔ (path.now ≡ router ∷ rest.now) }
 {
-    match path.as_slice() {
-        [first, others @ ..] => *first == router && are_same(others, rest),
+    match path {
+        [first, others @ ..] => *first == router && is_same_path(others, rest),
         [] => false,
     }
 }
@@ -32,7 +33,7 @@ fn is_listed_onward(paths: &[Path], router: Asn, rest: &[Asn]) -> bool
     ensures { IsTrue result ↔ Contains paths.now (router ∷ rest.now) }
 {
     for listed in paths {
-        if is_onward(listed, router, rest) {
+        if is_onward(listed.as_slice(), router, rest) {
             return true;
         }
     }
@@ -44,10 +45,10 @@ fn comes_first_onward(paths: &[Path], router: Asn, a: &[Asn], b: &[Asn]) -> bool
     ensures { IsTrue result ↔ ComesFirst paths.now (router ∷ a.now) (router ∷ b.now) }
 {
     for listed in paths {
-        if is_onward(listed, router, b) {
+        if is_onward(listed.as_slice(), router, b) {
             return false;
         }
-        if is_onward(listed, router, a) {
+        if is_onward(listed.as_slice(), router, a) {
             return true;
         }
     }
@@ -108,6 +109,30 @@ impl Chosen<'_> {
             Chosen::Only(_only) => false,
             Chosen::Ranked(rule) => comes_first_onward(rule.paths, router, a, b),
             Chosen::Shortest(_all) => is_shorter_onward(router, a, b),
+        }
+    }
+
+    /// Whether, from a router, the path along a way may be used, and is better than that along the best way so far. An
+    /// empty best way is none. No path is made.
+    pub fn takes_onward(&self, router: Asn, way: &[Asn], best: &[Asn]) -> bool
+        ensures { IsTrue result ↔ IsTaken self.now router way.now best.now }
+    {
+        (best.is_empty() || self.prefers_onward(router, way, best))
+            && self.permits_onward(router, way)
+    }
+
+    /// The better of two ways from a router: the new one if it is not empty, its path may be used and is better than
+    /// that along the best way so far; else the best way so far, which is empty if there is none. No path is made.
+    pub fn better_onward<'p>(&self, router: Asn, way: &'p [Asn], best: &'p [Asn]) -> &'p [Asn]
+        ensures { IsBetterWay self.now router way.now best.now result.now }
+    {
+        if way.is_empty() {
+            return best;
+        }
+        if self.takes_onward(router, way, best) {
+            way
+        } else {
+            best
         }
     }
 }

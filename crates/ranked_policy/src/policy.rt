@@ -121,8 +121,8 @@ impl Policy for Shortest {
     }
 }
 
-// Whether the path is one of these.
-pub(crate) fn is_listed(paths: &[Path], path: &Path) -> bool
+/// Whether a path is one of these.
+pub fn is_listed(paths: &[Path], path: &Path) -> bool
     ensures { IsTrue result ↔ Contains paths.now path.now }
 {
     for listed in paths {

@@ -2,7 +2,7 @@
 use Rattle.std.proofs.Common.{◌≡◌, ◌≢◌, ℕ, zero, suc, ◌<◌, ◌+◌, Bool, true, false, ◌||◌, cond, List, [], ◌∷◌, ◌++◌, length, get_or, set, map, position, refl, sym, ap, subst, ◌∙◌, arith, inl, inr, Some, None, Option}
 use Rattle.std.specs.Prelude.{MatchOption}
 use Rattle.std.specs.List.{slice_get, AllPairs}
-use Rattle.std.proofs.lemmas.Bool.{cases_Bool, cases_order, both_ways, false_from_ne_true}
+use Rattle.std.proofs.lemmas.Bool.{cases_Bool, cases_order, both_ways, false_from_ne_true, or_parts}
 use Rattle.std.proofs.lemmas.List.Quantifiers.{position-Some}
 use Rattle.std.specs.List.{list_any, All}
 use Rattle.std.specs.Option.{is_some}
@@ -11,24 +11,15 @@ use Rattle.std.proofs.lemmas.List.{length-map, length-set, set-set, length-appen
 use Rattle.std.proofs.Math.Seq.{get_or-append_seam}
 use Rattle.std.proofs.lemmas.Bool.{cond-true, cond-false, or_left}
 use Rattle.std.proofs.Math.Bool.{or-false, or_assoc}
-use Rattle.std.proofs.lemmas.Option.{slice_get-get_or, slice_get_within, get_or_from_slice_get, slice_get_cases, slice_get-map}
+use Rattle.std.proofs.lemmas.Option.{slice_get-get_or, slice_get_within, get_or_from_slice_get, slice_get_cases, slice_get-map, same_Some}
 use Rattle.rib_tables.specs.declared.row.Row.{Row}
 use Rattle.rib_tables.specs.declared.place_set.PlaceSet.{PlaceSet}
 use Rattle.rib_tables.specs.Places.{has}
 use Rattle.rib_tables.specs.Rows.{AreFit, Marks, on, hearing, hearing_all}
-use Rattle.rib_tables.proofs.RowChoices.{some_of}
 use Rattle.prefix_lanes.specs.Bits.{PrefixView, is_prefix}
 use Rattle.rib_tables.specs.declared.word.Word.{Word}
 use Rattle.rib_tables.specs.Words.{lists}
 use Rattle.rib_tables.proofs.WordLemmas.{is_prefix-true, is_prefix-from}
-
-or_false_left : (a b : Bool) → (a || b) ≡ false → a ≡ false
-or_false_left true b e = e
-or_false_left false b e = refl
-
-or_false_right : (a b : Bool) → (a || b) ≡ false → b ≡ false
-or_false_right true b e = absurd cc
-or_false_right false b e = e
 
 slice_get_tail : {X : Type 0} (x : X) (xs : List X) (i : ℕ) (y : X) → slice_get (x ∷ xs) (suc i) ≡ Some y → slice_get xs i ≡ Some y
 slice_get_tail {X} x xs i y at = at
@@ -36,8 +27,8 @@ slice_get_tail {X} x xs i y at = at
 -- a test that nothing of a list passes
 each_fails : (t : PrefixView → Bool) (keys : List PrefixView) → list_any t keys ≡ false → (i : ℕ) (p : PrefixView) → slice_get keys i ≡ Some p → t p ≡ false
 each_fails t [] none i p at = absurd (let lt = slice_get_within [] i p at in omega (arith, lt))
-each_fails t (k ∷ ks) none zero p at = ap t (sym (some_of k p at)) ∙ or_false_left (t k) (list_any t ks) none
-each_fails t (k ∷ ks) none (suc i) p at = each_fails t ks (or_false_right (t k) (list_any t ks) none) i p (slice_get_tail k ks i p at)
+each_fails t (k ∷ ks) none zero p at = ap t (sym (same_Some k p at)) ∙ (or_parts (t k) (list_any t ks) none).0
+each_fails t (k ∷ ks) none (suc i) p at = each_fails t ks (or_parts (t k) (list_any t ks) none).1 i p (slice_get_tail k ks i p at)
 
 -- and the other way about
 pub each_passes : (t : PrefixView → Bool) (keys : List PrefixView) → ((i : ℕ) (p : PrefixView) → slice_get keys i ≡ Some p → t p ≡ false) → list_any t keys ≡ false
@@ -67,7 +58,7 @@ module _ (keys : List PrefixView) (rows : List Row) (listed : keys ≡ map (λ r
   row_at i q at =
       let lt = slice_get_within keys i q at in
       let here = within rows i (omega (arith, lt, many)) in
-      (here.0, here.1, some_of here.0.prefix q (sym (key_at i here.0 here.1) ∙ at))
+      (here.0, here.1, same_Some here.0.prefix q (sym (key_at i here.0 here.1) ∙ at))
 
 pub once_at : (keys : List PrefixView) → AllPairs (λ p q. p ≢ q) keys → (i j : ℕ) (p : PrefixView) → slice_get keys i ≡ Some p → slice_get keys j ≡ Some p → i ≡ j
 once_at keys once i j p at also =
@@ -92,7 +83,7 @@ module _ (q : PrefixView) (g : Row → Row) where
       → ((j : ℕ) (s : Row) → slice_get rows j ≡ Some s → j ≢ i → is_prefix q s.prefix ≡ false) → set rows i (g r) ≡ map (on q g) rows
   set_is_map [] i r at is others = absurd (let lt = slice_get_within [] i r at in omega (arith, lt))
   set_is_map (x ∷ xs) zero r at is others =
-      let same : x ≡ r = some_of x r at in
+      let same : x ≡ r = same_Some x r at in
       let head : on q g x ≡ g r = ap (on q g) same ∙ cond-true (is_prefix q r.prefix) (g r) r is in
       ap (λ (s : Row). s ∷ xs) (sym head) ∙ ap (λ (ss : List Row). on q g x ∷ ss) (sym (untouched xs (λ j s there. others (suc j) s there (λ e. absurd cc))))
   set_is_map (x ∷ xs) (suc i) r at is others =
@@ -105,7 +96,7 @@ pub set_at_key : (keys : List PrefixView) (n : ℕ) (rows : List Row) → AreFit
     → set rows i (g r) ≡ map (on q g) rows
 set_at_key keys n rows fit q i at g r there =
     let key : slice_get keys i ≡ Some r.prefix = key_at keys rows fit.listed i r there in
-    set_is_map q g rows i r there (is_prefix-from q r.prefix (some_of q r.prefix (sym at ∙ key)))
+    set_is_map q g rows i r there (is_prefix-from q r.prefix (same_Some q r.prefix (sym at ∙ key)))
     (λ j s here apart. false_from_ne_true (is_prefix q s.prefix) (λ t. apart (once_at keys fit.once j i q (key_at keys rows fit.listed j s here ∙ ap Some (sym (is_prefix-true q s.prefix t))) at)))
 
 -- only the place of the prefix is new in the set
@@ -178,7 +169,7 @@ from_map {X} {Y} f xs i y at =
     let lt = slice_get_within (map f xs) i y at in
     let size = length-map xs f in
     let here = within xs i (omega (arith, lt, size)) in
-    (here.0, here.1, some_of y (f here.0) (sym at ∙ slice_get-map f xs i ∙ ap (option_map f) here.1))
+    (here.0, here.1, same_Some y (f here.0) (sym at ∙ slice_get-map f xs i ∙ ap (option_map f) here.1))
 
 pub to_map : {X Y : Type 0} (f : X → Y) (xs : List X) (i : ℕ) (x : X) → slice_get xs i ≡ Some x → slice_get (map f xs) i ≡ Some (f x)
 to_map {X} {Y} f xs i x at = slice_get-map f xs i ∙ ap (option_map f) at
@@ -225,4 +216,4 @@ maps_by_places {X} {Y} {Z} f g (x ∷ xs) (y ∷ ys) size each =
 -- a list whose items are those of another after a change
 pub map_by_places : {X : Type 0} (f : X → X) (old new : List X) → length new ≡ length old → ((i : ℕ) (x : X) → slice_get old i ≡ Some x → slice_get new i ≡ Some (f x)) → new ≡ map f old
 map_by_places {X} f old new size each =
-    sym (maps_by_places f (λ (x : X). x) old new (sym size) (λ i x y at there. some_of (f x) y (sym (each i x at) ∙ there)) ∙ map_same (λ (x : X). x) (λ x. refl) new)
+    sym (maps_by_places f (λ (x : X). x) old new (sym size) (λ i x y at there. same_Some (f x) y (sym (each i x at) ∙ there)) ∙ map_same (λ (x : X). x) (λ x. refl) new)

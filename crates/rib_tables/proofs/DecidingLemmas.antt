@@ -2,8 +2,8 @@
 use Rattle.std.proofs.Common.{◌≡◌, ◌≢◌, ℕ, ◌<◌, ◌≤◌, ◌+◌, true, false, List, [], ◌∷◌, length, get_or, refl, sym, ap, subst, ◌∙◌, arith, inl, inr, Some, None, Option}
 use Rattle.std.specs.Prelude.{◌↔◌, MatchOption}
 use Rattle.std.specs.List.{slice_get}
-use Rattle.std.proofs.lemmas.Bool.{cases_order, both_ways, false≢true}
-use Rattle.std.proofs.lemmas.Option.{slice_get_within, get_or_from_slice_get, slice_get-get_or}
+use Rattle.std.proofs.lemmas.Bool.{cases_order, both_ways, false≢true, cases_eq}
+use Rattle.std.proofs.lemmas.Option.{slice_get_within, get_or_from_slice_get, slice_get-get_or, same_Some}
 use Rattle.ranked_policy.specs.declared.network.NetRouter.{NetRouter}
 use Rattle.ranked_policy.specs.Plans.{Plan, IsNetwork, IsRouter, numbers}
 use Rattle.ranked_policy.specs.Policies.{Table, IsTableOf}
@@ -12,11 +12,11 @@ use Rattle.rib_tables.specs.declared.place_set.PlaceSet.{PlaceSet}
 use Rattle.rib_tables.specs.declared.row.Peer.{Peer}
 use Rattle.rib_tables.specs.declared.row.Row.{Row}
 use Rattle.rib_tables.specs.Places.{has}
-use Rattle.rib_tables.specs.Choices.{IsFirstOrNone, IsBestOf}
+use Rattle.ranked_policy.specs.Choices.{IsFirstOrNone}
+use Rattle.rib_tables.specs.Choices.{IsBestOf}
 use Rattle.rib_tables.specs.Rows.{RowHears, IsRow, IsRowBest, AreDecided, AllBest, IsFirstUndecided}
 use Rattle.ranked_policy.proofs.OneTable.{one_table, table_stands}
 use Rattle.rib_tables.proofs.RouterLemmas.{best_once}
-use Rattle.rib_tables.proofs.RowChoices.{some_of, same_or_apart}
 use Rattle.rib_tables.proofs.ChangeLemmas.{from_map}
 
 -- a router of a network has a table of policies
@@ -81,8 +81,8 @@ module _ (n first : ℕ) (old new : PlaceSet) (clear : (j : ℕ) → j < n → h
 module _ (net : Plan) (router : ℕ) (peers : List Peer) (rows : List Row) (dirty : PlaceSet) (decided : AreDecided net router peers rows dirty) where
   -- a place whose row has its best can be taken out
   pub decided_more : (place : ℕ) (r : Row) (new : PlaceSet) → slice_get rows place ≡ Some r → IsRowBest net router peers r r.kept → ((j : ℕ) → j ≢ place → has new j ≡ has dirty j) → AreDecided net router peers rows new
-  decided_more place r new at best others i s there out = elim (same_or_apart i place) [
-    | inl same ↦ subst (λ (x : Row). IsRowBest net router peers x x.kept) (some_of r s (sym at ∙ ap (λ (n : ℕ). slice_get rows n) (sym same) ∙ there)) best
+  decided_more place r new at best others i s there out = elim (cases_eq i place) [
+    | inl same ↦ subst (λ (x : Row). IsRowBest net router peers x x.kept) (same_Some r s (sym at ∙ ap (λ (n : ℕ). slice_get rows n) (sym same) ∙ there)) best
     | inr apart ↦
         decided i s there (sym (others i apart) ∙ out)
   ]

@@ -2,9 +2,9 @@
 use Rattle.std.proofs.Common.{◌≡◌, ◌≢◌, ℕ, ◌<◌, Bool, true, false, List, length, set, map, refl, sym, ap, subst, ◌∙◌, arith, inl, inr, ◌⊎◌, Some, None, Option, rules}
 use Rattle.std.specs.Prelude.{◌↔◌, MatchOption, IsSome}
 use Rattle.std.specs.List.{slice_get, Contains}
-use Rattle.std.proofs.lemmas.Bool.{cases_Bool, both_ways, cond-true, cond-false, false≢true, false_from_ne_true}
+use Rattle.std.proofs.lemmas.Bool.{cases_Bool, both_ways, cond-true, cond-false, false≢true, false_from_ne_true, cases_eq}
 use Rattle.std.proofs.lemmas.List.{length-set}
-use Rattle.std.proofs.lemmas.Option.{slice_get_within}
+use Rattle.std.proofs.lemmas.Option.{slice_get_within, same_Some}
 use Rattle.prefix_lanes.specs.Bits.{PrefixView, is_prefix}
 use Rattle.ranked_policy.specs.declared.network.Origin.{Origin}
 use Rattle.ranked_policy.specs.Plans.{Plan, IsNamed, IsOrigin}
@@ -18,7 +18,6 @@ use Rattle.rib_tables.specs.Tables.{Keeps}
 use Rattle.rib_tables.specs.Owners.{RibView, TellsKept, Originating, Withdrawing, KeepsPath, Clears}
 use Rattle.rib_tables.specs.Rows.{IsRow, AreRows, AreWaiting, IsRowBest, IsRib, Marks, on, telling, keeping, originating, clearing, said_in, established_in, originated_in, kept_in, view_of}
 use Rattle.rib_tables.proofs.WordLemmas.{is_prefix-true, is_prefix-from}
-use Rattle.rib_tables.proofs.RowChoices.{some_of, same_or_apart}
 use Rattle.rib_tables.proofs.ChangeLemmas.{from_map, to_map, key_at, row_at, set_at_key, marks_one}
 use Rattle.rib_tables.proofs.RibLemmas.{set_here, set_there, rows_map, decided_map, row_or_not, new_word, same_word, said_map, originated_map, kept_map, fit_of, named_row}
 use Rattle.rib_tables.proofs.SeenLemmas.{once, no_kept, kept_at, originated_listed, listed_originated}
@@ -243,9 +242,9 @@ module _ (net : Plan) (router : ℕ) (peers : List Peer) (keys : List PrefixView
         long = long ∙ rib.told.long;
         each = λ k p w there told_at j r at_new.
             let y = from_map kept rows j r at_new in
-            elim (same_or_apart j i) [
+            elim (cases_eq j i) [
               | inl same ↦
-                  let row_is : keeping path row ≡ r = sym (y.2 ∙ ap kept (some_of y.0 row (sym y.1 ∙ ap (λ (n : ℕ). slice_get rows n) same ∙ at)) ∙ on_here q (keeping path) row is) in
+                  let row_is : keeping path row ≡ r = sym (y.2 ∙ ap kept (same_Some y.0 row (sym y.1 ∙ ap (λ (n : ℕ). slice_get rows n) same ∙ at)) ∙ on_here q (keeping path) row is) in
                   subst (λ (n : ℕ). has w n ≡ true ↔ ((p.up ≡ true) × (slice_get r.sent k ≢ Some (Sequence r.kept)))) (sym same)
                   (subst (λ (s : Row). has w i ≡ true ↔ ((p.up ≡ true) × (slice_get s.sent k ≢ Some (Sequence s.kept)))) row_is (here k p w there told_at))
               | inr apart ↦
@@ -305,12 +304,12 @@ module _ (net : Plan) (router : ℕ) (peers : List Peer) (keys : List PrefixView
         each = λ k p w there here j r at_new.
             let y = from_map told rows j r at_new in
             let kept_as : r.kept ≡ y.0.kept = ap (λ (s : Row). s.kept) y.2 ∙ on_same q (telling to word) (λ s. s.kept) (λ s. refl) y.0 in
-            elim (same_or_apart k to) [
+            elim (cases_eq k to) [
               | inl same ↦
-                  let w_is : w ≡ out = some_of w out (sym here ∙ ap (λ (n : ℕ). slice_get (set waits to out) n) same ∙ set_here waits to out (slice_get_within waits to old was)) in
-                  elim (same_or_apart j i) [
+                  let w_is : w ≡ out = same_Some w out (sym here ∙ ap (λ (n : ℕ). slice_get (set waits to out) n) same ∙ set_here waits to out (slice_get_within waits to old was)) in
+                  elim (cases_eq j i) [
                     | inl place ↦
-                        let row_is : y.0 ≡ row = some_of y.0 row (sym y.1 ∙ ap (λ (n : ℕ). slice_get rows n) place ∙ at) in
+                        let row_is : y.0 ≡ row = same_Some y.0 row (sym y.1 ∙ ap (λ (n : ℕ). slice_get rows n) place ∙ at) in
                         let gone_w : has w j ≡ false = ap (λ (s : PlaceSet). has s j) w_is ∙ ap (has out) place ∙ gone in
                         let sent_is : slice_get r.sent k ≡ Some (Sequence r.kept) =
                         ap (λ (s : Row). slice_get s.sent k) (y.2 ∙ ap told row_is) ∙ ap (λ (n : ℕ). slice_get (told row).sent n) same ∙ sent_here
@@ -338,7 +337,7 @@ module _ (net : Plan) (router : ℕ) (peers : List Peer) (keys : List PrefixView
           ∙ ap Sequence (sym (kept_at rows q i row (once net router peers keys rows whole) at is));
       others = λ v p either. same_word net router peers keys rows whole told told_prefix (λ r. r.sent) (λ r h. h.sent) v p (λ j k r y there of here number.
           elim either [
-            | inl apart ↦ sent_there k (λ z. apart (sym number ∙ ap (λ (o : Peer). o.asn) (some_of y x (sym here ∙ ap (λ (n : ℕ). slice_get peers n) z ∙ peer)))) r
+            | inl apart ↦ sent_there k (λ z. apart (sym number ∙ ap (λ (o : Peer). o.asn) (same_Some y x (sym here ∙ ap (λ (n : ℕ). slice_get peers n) z ∙ peer)))) r
             | inr apart ↦ ap (λ (s : Row). slice_get s.sent k) (on_there q (telling to word) r (λ z. apart (sym of ∙ z)))
           ]);
       rest =

@@ -4,7 +4,7 @@ use Rattle.std.specs.Prelude.{◌↔◌}
 use Rattle.std.specs.List.{slice_get, All, AllPairs, Contains, list_any}
 use Rattle.std.proofs.lemmas.Bool.{cases_Bool, both_ways, cond-false, false≢true, false_from_ne_true}
 use Rattle.std.proofs.lemmas.List.{length-map, length-take-le, take_more, map-append, get_or-map, get_or-take}
-use Rattle.std.proofs.lemmas.Option.{slice_get_within, get_or_from_slice_get, slice_get-get_or}
+use Rattle.std.proofs.lemmas.Option.{slice_get_within, get_or_from_slice_get, slice_get-get_or, same_Some}
 use Rattle.prefix_lanes.specs.Bits.{PrefixView, is_prefix}
 use Rattle.ranked_policy.specs.declared.network.Origin.{Origin}
 use Rattle.ranked_policy.specs.Plans.{Plan, IsNetwork, IsRouter, IsOrigin, IsBefore, Linked}
@@ -17,12 +17,11 @@ use Rattle.rib_tables.specs.declared.row.Row.{Row}
 use Rattle.rib_tables.specs.Places.{has}
 use Rattle.rib_tables.specs.Words.{nothing}
 use Rattle.rib_tables.specs.Tables.{IsSilent}
-use Rattle.rib_tables.specs.Choices.{Speaks}
+use Rattle.ranked_policy.specs.Choices.{Speaks}
 use Rattle.rib_tables.specs.Owners.{IsNew}
 use Rattle.rib_tables.specs.Rows.{IsRow, AreRows, IsRowBest, IsRib, IsFresh, AreFresh, said_in, view_of}
 use Rattle.rib_tables.proofs.WordLemmas.{is_prefix-true}
 use Rattle.ranked_policy.proofs.OneTable.{one_table}
-use Rattle.rib_tables.proofs.RowChoices.{some_of}
 use Rattle.rib_tables.proofs.ChangeLemmas.{from_map, to_map, maps_by_places, each_passes, within}
 use Rattle.rib_tables.proofs.ViewLemmas.{peer_or_not, no_row, no_peer}
 use Rattle.rib_tables.proofs.RibLemmas.{before_apart, row_or_not, old_word}
@@ -32,7 +31,7 @@ use Rattle.rib_tables.proofs.SeenLemmas.{once, no_kept, kept_at, listed_originat
 -- ---- one more of a list
 
 pub get_push : {X : Type 0} (xs : List X) (x y : X) (i : ℕ) → slice_get (xs ++ x ∷ []) i ≡ Some y → (slice_get xs i ≡ Some y) ⊎ ((i ≡ length xs) × (x ≡ y))
-get_push {X} [] x y zero at = inr (refl, some_of x y at)
+get_push {X} [] x y zero at = inr (refl, same_Some x y at)
 get_push {X} [] x y (suc i) at = absurd (let lt = slice_get_within (x ∷ []) (suc i) y at in omega (arith, lt))
 get_push {X} (z ∷ zs) x y zero at = inl at
 get_push {X} (z ∷ zs) x y (suc i) at = elim (get_push zs x y i at) [ inl there ↦ inl there | inr here ↦ inr (omega (arith, here.0), here.1) ]
@@ -64,7 +63,7 @@ pub fresh_push : (origins : List Origin) (table : Table) (n : ℕ) (listed : Lis
 fresh_push origins table n listed rows i o r long lt is fresh each k p s at there = elim (get_push rows r s k there) [
   | inl old ↦ each k p s at old
   | inr new ↦
-      let same : o ≡ p = is ∙ some_of (get_or listed i o) p (sym (slice_get-get_or listed i o lt) ∙ ap (λ (j : ℕ). slice_get listed j) (sym (new.0 ∙ long)) ∙ at) in
+      let same : o ≡ p = is ∙ same_Some (get_or listed i o) p (sym (slice_get-get_or listed i o lt) ∙ ap (λ (j : ℕ). slice_get listed j) (sym (new.0 ∙ long)) ∙ at) in
       subst (λ (x : Row). IsFresh origins table n p x) new.1 (subst (λ (x : Origin). IsFresh origins table n x r) same fresh)
 ]
 

@@ -5,7 +5,7 @@ use Rattle.std.proofs.Common.{rules}
 use Rattle.std.specs.List.{slice_get, AllPairs}
 use Rattle.std.proofs.lemmas.Bool.{cases_Bool, cases_order, both_ways, cond-true, cond-false}
 use Rattle.std.proofs.lemmas.List.{length-map, length-set, get_or-map, get_or-set_same}
-use Rattle.std.proofs.lemmas.Option.{slice_get_within, get_or_from_slice_get, slice_get-get_or}
+use Rattle.std.proofs.lemmas.Option.{slice_get_within, get_or_from_slice_get, slice_get-get_or, same_Some}
 use Rattle.prefix_lanes.specs.Bits.{PrefixView, is_prefix}
 use Rattle.bgp_codec.specs.declared.update.Update.{Update}
 use Rattle.ranked_policy.specs.declared.network.Origin.{Origin}
@@ -22,7 +22,6 @@ use Rattle.rib_tables.specs.Tables.{Words, word_of, Applies}
 use Rattle.rib_tables.specs.Owners.{RibView, HearsUpdate}
 use Rattle.rib_tables.specs.Rows.{says_in, said_in, established_in, kept_in, originated_in, view_of, IsRow, AreRows, AreDecided, AreJudged, IsRowBest, IsRib, AreFit, StaysDecided, hearing, hearing_all, hearing_update}
 use Rattle.rib_tables.proofs.WordLemmas.{is_prefix-true, is_prefix-from, decides_lists, decides_mentions, by_test}
-use Rattle.rib_tables.proofs.RowChoices.{some_of}
 use Rattle.rib_tables.proofs.ChangeLemmas.{key_at, row_at, once_at, map_after, from_map, to_map, hearing_keeps}
 use Rattle.rib_tables.proofs.ViewLemmas.{peer_or_not, no_row, no_peer, word_at}
 
@@ -158,7 +157,7 @@ row_or_not (x ∷ xs) q = elim (cases_Bool (is_prefix x.prefix q)) [
 ]
   where
     none_in : is_prefix x.prefix q ≡ false → ((i : ℕ) (r : Row) → slice_get xs i ≡ Some r → r.prefix ≡ q → ⊥) → (i : ℕ) (r : Row) → slice_get (x ∷ xs) i ≡ Some r → r.prefix ≡ q → ⊥
-    none_in f none zero r at e = both_ways (is_prefix x.prefix q) f (is_prefix-from x.prefix q (ap (λ (s : Row). s.prefix) (some_of x r at) ∙ e))
+    none_in f none zero r at e = both_ways (is_prefix x.prefix q) f (is_prefix-from x.prefix q (ap (λ (s : Row). s.prefix) (same_Some x r at) ∙ e))
     none_in f none (suc i) r at e = none i r at e
 
 pub said_map : (line : Row → List Word) (peers : List Peer) (f : Row → Row) → ((r : Row) → (f r).prefix ≡ r.prefix) → ((r : Row) → line (f r) ≡ line r) → (rows : List Row) → said_in line peers (map f rows) ≡ said_in line peers rows
@@ -281,7 +280,7 @@ module _ (k : ℕ) (u : Update) (net : Plan) (router : ℕ) (peers : List Peer) 
         (λ i j r p there is here e. absurd (none (subst (IsNamed net.origins) is (row_named net router peers keys rows whole i r there))));
     others = λ v q apart. same_word net router peers keys rows whole (hearing_update k u) hears_prefix (λ r. r.heard) long v q
         (λ i j r p there is here e.
-        hears_keep k u (λ y. slice_get y.heard j) (λ w y. set_there y.heard k j w (λ same. apart (sym e ∙ ap (λ (y2 : Peer). y2.asn) (some_of p x (sym here ∙ ap (λ (n : ℕ). slice_get peers n) same ∙ at))))) r);
+        hears_keep k u (λ y. slice_get y.heard j) (λ w y. set_there y.heard k j w (λ same. apart (sym e ∙ ap (λ (y2 : Peer). y2.asn) (same_Some p x (sym here ∙ ap (λ (n : ℕ). slice_get peers n) same ∙ at))))) r);
   }
 
   pub hears_view : (new : List Row) → new ≡ map (hearing_update k u) rows → HearsUpdate (view_of net router peers rows) (view_of net router peers new) x.asn u

@@ -10,18 +10,12 @@ use Rattle.ranked_policy.specs.Promises.{EachPolicyIsAnOrder}
 use Rattle.rib_tables.specs.declared.word.Word.TheVariants.{Sequence}
 use Rattle.rib_tables.specs.Words.{path_in}
 use Rattle.rib_tables.specs.Choices.{Hears, IsOwn, IsBestOf}
-use Rattle.rib_tables.specs.Promises.{OneBest, HasPathOf, BestAmongPaths, BestOverWords}
+use Rattle.ranked_policy.specs.Choices.{HasPathOver}
+use Rattle.rib_tables.specs.Promises.{OneBest, BestAmongPaths, BestOverWords}
 use Rattle.rib_tables.specs.Tables.{word_of}
-use Rattle.rib_tables.proofs.ChoiceLemmas.{first_once, word_is}
-use Rattle.rib_tables.proofs.RowChoices.{first_as}
+use Rattle.ranked_policy.proofs.ChoiceLemmas.{first_once, first_as}
+use Rattle.rib_tables.proofs.ChoiceLemmas.{word_is}
 use Rattle.ranked_policy.proofs.OneTable.{one_table, table_stands}
-
--- the router is an origin by the network exactly where it is by its table
-pub origin_by : (net : Plan) (u : ℕ) (t : Table) (q : PrefixView) → IsTableOf net u t → (IsOrigin net.origins u q ↔ Originates t q t.router)
-origin_by net u t q of = (
-  λ o. subst (λ (os : List Origin). IsOrigin os t.router q) (sym of.1) (subst (λ (n : ℕ). IsOrigin net.origins n q) (sym of.0) o),
-  λ o. subst (λ (n : ℕ). IsOrigin net.origins n q) of.0 (subst (λ (os : List Origin). IsOrigin os t.router q) of.1 o),
-)
 
 -- ---- one best
 
@@ -55,7 +49,7 @@ best_as Originated One Other t q path onto back (inr x) = inr (x.0, first_as t q
 pub best_among : BestAmongPaths
 best_among s q paths hears path =
     let Mine : ℕ → List ℕ → Type 0 = Hears s.heard s.established q in
-    let Theirs : ℕ → List ℕ → Type 0 = HasPathOf s.net paths s.router in
+    let Theirs : ℕ → List ℕ → Type 0 = HasPathOver s.net.links paths s.router in
     let onto : (v : ℕ) (p : List ℕ) → p ≢ [] → Mine v p → Theirs v p = λ v p some m.
     let linked = (hears.linked v).0 m.0 in
     (linked, ap path_in (sym m.1 ∙ hears.words v linked)) in
@@ -65,7 +59,7 @@ best_among s q paths hears path =
 pub best_over_words : BestOverWords
 best_over_words s q words hears path =
     let Mine : ℕ → List ℕ → Type 0 = Hears s.heard s.established q in
-    let Theirs : ℕ → List ℕ → Type 0 = HasPathOf s.net words s.router in
+    let Theirs : ℕ → List ℕ → Type 0 = HasPathOver s.net.links words s.router in
     let onto : (v : ℕ) (p : List ℕ) → p ≢ [] → Mine v p → Theirs v p = λ v p some m.
     let linked = hears.linked v m.0 in
     (linked, elim (hears.said v linked) [ inl up ↦ ap path_in (sym m.1) ∙ sym up.1 | inr down ↦ absurd (down.0 m.0) ]) in

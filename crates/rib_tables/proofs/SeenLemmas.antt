@@ -3,7 +3,7 @@ use Rattle.std.proofs.Common.{◌≡◌, ◌≢◌, ℕ, zero, suc, ◌<◌, tru
 use Rattle.std.specs.Prelude.{◌↔◌}
 use Rattle.std.specs.List.{slice_get, Contains}
 use Rattle.std.proofs.lemmas.Bool.{cases_order, both_ways, false_from_ne_true}
-use Rattle.std.proofs.lemmas.Option.{slice_get_within, get_or_from_slice_get, slice_get-get_or}
+use Rattle.std.proofs.lemmas.Option.{slice_get_within, get_or_from_slice_get, slice_get-get_or, same_Some}
 use Rattle.prefix_lanes.specs.Bits.{PrefixView, is_prefix}
 use Rattle.ranked_policy.specs.declared.network.Origin.{Origin}
 use Rattle.ranked_policy.specs.Plans.{Plan, IsBefore}
@@ -23,12 +23,12 @@ use Rattle.rib_tables.specs.Owners.{RibView, sources_of, IsSettled, IsServed}
 use Rattle.rib_tables.specs.Rows.{RowHears, AreRows, IsRowBest, IsWaiting, said_in, established_in, originated_in, kept_in, view_of}
 use Rattle.rib_tables.proofs.WordLemmas.{is_prefix-true, is_prefix-from}
 use Rattle.rib_tables.proofs.KeptLemmas.{path_of-nil, path_of-first, path_of-next}
-use Rattle.rib_tables.proofs.ChoiceLemmas.{same_or_not}
+use Rattle.ranked_policy.proofs.ChoiceLemmas.{same_or_not}
 use Rattle.rib_tables.proofs.RouterLemmas.{best_as}
-use Rattle.rib_tables.proofs.RowChoices.{some_of}
 use Rattle.rib_tables.proofs.ChangeLemmas.{key_at, from_map}
 use Rattle.rib_tables.proofs.RibLemmas.{row_once, peer_once, fit_of, old_word, named_row, row_named}
 use Rattle.rib_tables.proofs.SessionLemmas.{picks, picked_from, up_listed, listed_up}
+use Rattle.ranked_policy.proofs.Rising.{before_trans, before_self}
 
 -- ---- kept paths
 
@@ -42,7 +42,7 @@ pub kept_at : (rows : List Row) (q : PrefixView) (i : ℕ) (r : Row) → ((a b :
     → slice_get rows i ≡ Some r → r.prefix ≡ q → path_of (kept_in rows) q ≡ r.kept
 kept_at [] q i r once at is = absurd (let lt = slice_get_within [] i r at in omega (arith, lt))
 kept_at (x ∷ xs) q zero r once at is =
-    let same : x ≡ r = some_of x r at in
+    let same : x ≡ r = same_Some x r at in
     path_of-first (record { prefix = x.prefix; path = x.kept }) (kept_in xs) q (is_prefix-from x.prefix q (ap (λ (s : Row). s.prefix) same ∙ is)) ∙ ap (λ (s : Row). s.kept) same
 kept_at (x ∷ xs) q (suc i) r once at is =
     path_of-next (record { prefix = x.prefix; path = x.kept }) (kept_in xs) q
@@ -69,16 +69,7 @@ best_between : (O P : Type 0) (One Other : ℕ → List ℕ → Type 0) (t : Tab
 best_between O P One Other t q path same onto back (inl own) = inl (own.0, elim own.1 [ inl x ↦ inl (same.0 x.0, x.1) | inr x ↦ inr ((λ p. x.0 (same.1 p)), x.1) ])
 best_between O P One Other t q path same onto back (inr x) = best_as P One Other t q path (λ v p _. onto v p) (λ v p _. back v p) (inr x)
 
--- ---- prefixes by their order
-
-before_trans : (p q r : PrefixView) → IsBefore p q → IsBefore q r → IsBefore p r
-before_trans p q r g h = elim g [
-  | inl l ↦ elim h [ inl m ↦ inl (omega (arith, l, m)) | inr s ↦ inl (omega (arith, l, s.0)) ]
-  | inr t ↦ elim h [ inl m ↦ inl (omega (arith, t.0, m)) | inr s ↦ inr (t.0 ∙ s.0, omega (arith, t.1, s.1)) ]
-]
-
-before_self : (p : PrefixView) → IsBefore p p → ⊥
-before_self p h = elim h [ inl l ↦ omega (arith, l) | inr s ↦ omega (arith, s.1) ]
+-- ---- rows by the order of their prefixes
 
 module _ (net : Plan) (router : ℕ) (peers : List Peer) (keys : List PrefixView) (rows : List Row) (whole : AreRows net router peers keys rows) where
   abbrev view : RibView
@@ -107,7 +98,7 @@ module _ (net : Plan) (router : ℕ) (peers : List Peer) (keys : List PrefixView
     λ c.
         let x = listed_up peers p.asn c in
         let place : x.0 ≡ k = peer_once peers whole.apart x.0 k x.1 p x.2 there x.4 in
-        sym (ap (λ (y : Peer). y.up) (some_of x.1 p (sym x.2 ∙ ap (λ (n : ℕ). slice_get peers n) place ∙ there))) ∙ x.3,
+        sym (ap (λ (y : Peer). y.up) (same_Some x.1 p (sym x.2 ∙ ap (λ (n : ℕ). slice_get peers n) place ∙ there))) ∙ x.3,
   )
 
   module _ (Holds : PrefixView → Type 0) where
@@ -125,7 +116,7 @@ module _ (net : Plan) (router : ℕ) (peers : List Peer) (keys : List PrefixView
           let below : IsBefore x.1.prefix r.prefix = subst (λ (q : PrefixView). IsBefore q r.prefix) (sym x.3) under in
           elim (cases_order x.0 i) [
             | inl same ↦
-                let row : x.1 ≡ r = some_of x.1 r (sym x.2 ∙ ap (λ (n : ℕ). slice_get rows n) same ∙ at) in
+                let row : x.1 ≡ r = same_Some x.1 r (sym x.2 ∙ ap (λ (n : ℕ). slice_get rows n) same ∙ at) in
                 absurd (before_self r.prefix (subst (λ (s : Row). IsBefore s.prefix r.prefix) row below))
             | inr differ ↦ elim differ [
               | inl less ↦ subst Holds x.3 (each x.0 x.1 less x.2)
@@ -144,7 +135,7 @@ module _ (net : Plan) (router : ℕ) (peers : List Peer) (keys : List PrefixView
       λ c.
           let x = listed_originated rows r.prefix c in
           let place : x.0 ≡ i = once x.0 i x.1 r x.2 at x.4 in
-          let same : x.1 ≡ r = some_of x.1 r (sym x.2 ∙ ap (λ (n : ℕ). slice_get rows n) place ∙ at) in
+          let same : x.1 ≡ r = same_Some x.1 r (sym x.2 ∙ ap (λ (n : ℕ). slice_get rows n) place ∙ at) in
           sym (ap (λ (s : Row). s.originated) same) ∙ x.3,
     )
 
@@ -199,7 +190,7 @@ module _ (net : Plan) (router : ℕ) (peers : List Peer) (keys : List PrefixView
           let up : p.up ≡ true = (established_here k p there).1 c in
           elim (word_or_not (get_or r.sent k nothing) r.kept) [
             | inl same ↦ word_here (λ s. s.sent) k p (get_or r.sent k nothing) there word_there ∙ same ∙ ap Sequence (sym kept_here)
-            | inr apart ↦ absurd (both_ways (has waiting i) out ((told i r at).1 (up, λ e. apart (some_of (get_or r.sent k nothing) (Sequence r.kept) (sym word_there ∙ e)))))
+            | inr apart ↦ absurd (both_ways (has waiting i) out ((told i r at).1 (up, λ e. apart (same_Some (get_or r.sent k nothing) (Sequence r.kept) (sym word_there ∙ e)))))
           ]
 
       -- one that waits is Established, and was not

@@ -7,9 +7,9 @@ use Rattle.std.proofs.Math.Seq.{map-set_same}
 use Rattle.std.proofs.Common.{drop}
 use Rattle.rib_tables.specs.Tables.{Words, Forgets}
 use Rattle.rib_tables.specs.Owners.{ComesUp, ForgetsPeer}
-use Rattle.std.proofs.lemmas.Bool.{cases_Bool, both_ways, cond-true, cond-false, false≢true}
+use Rattle.std.proofs.lemmas.Bool.{cases_Bool, both_ways, cond-true, cond-false, false≢true, cases_eq}
 use Rattle.std.proofs.lemmas.List.{length-set}
-use Rattle.std.proofs.lemmas.Option.{slice_get_within, get_or_from_slice_get, slice_get-get_or}
+use Rattle.std.proofs.lemmas.Option.{slice_get_within, get_or_from_slice_get, slice_get-get_or, same_Some}
 use Rattle.prefix_lanes.specs.Bits.{PrefixView}
 use Rattle.ranked_policy.specs.Plans.{Plan, Linked}
 use Rattle.rib_tables.specs.declared.word.Word.{Word}
@@ -21,7 +21,6 @@ use Rattle.rib_tables.specs.Places.{has}
 use Rattle.rib_tables.specs.Words.{nothing}
 use Rattle.rib_tables.specs.Choices.{IsBestOf}
 use Rattle.rib_tables.specs.Rows.{RowHears, IsRow, AreRows, IsRowBest, IsRib, MarksSpeaking, Speaking, forgetting, picked, says_in, said_in, established_in, originated_in, kept_in, view_of}
-use Rattle.rib_tables.proofs.RowChoices.{some_of, same_or_apart}
 use Rattle.rib_tables.proofs.RouterLemmas.{best_as}
 use Rattle.rib_tables.proofs.ChangeLemmas.{from_map, map_after, map_same}
 use Rattle.rib_tables.proofs.RibLemmas.{set_here, set_there, row_or_not, new_word, same_word, originated_map, kept_map, peer_once}
@@ -57,8 +56,8 @@ module _ (net : Plan) (router : ℕ) (peers : List Peer) (keys : List PrefixView
 
   -- a peer of the changed list: that one, or another as it was
   peer_of : (up : Bool) (j : ℕ) (p : Peer) → slice_get (turned up) j ≡ Some p → ((j ≡ k) × (p ≡ record { asn = x.asn; up = up })) ⊎ ((j ≢ k) × (slice_get peers j ≡ Some p))
-  peer_of up j p there = elim (same_or_apart j k) [
-    | inl same ↦ inl (same, some_of p (record { asn = x.asn; up = up }) (sym there ∙ ap (λ (n : ℕ). slice_get (turned up) n) same ∙ set_here peers k (record { asn = x.asn; up = up }) inside))
+  peer_of up j p there = elim (cases_eq j k) [
+    | inl same ↦ inl (same, same_Some p (record { asn = x.asn; up = up }) (sym there ∙ ap (λ (n : ℕ). slice_get (turned up) n) same ∙ set_here peers k (record { asn = x.asn; up = up }) inside))
     | inr apart ↦
         inr (apart, sym (set_there peers k j (record { asn = x.asn; up = up }) apart) ∙ there)
   ]
@@ -78,12 +77,12 @@ module _ (net : Plan) (router : ℕ) (peers : List Peer) (keys : List PrefixView
     apart = λ i j d lt below e.
         let s = size up in
         rib.whole.apart i j d lt (omega (arith, below, s)) (sym (number_of up i d (omega (arith, lt, below, s))) ∙ e ∙ number_of up j d (omega (arith, below, s)));
-    linked = λ v link. let there = rib.whole.linked v link in elim (same_or_apart there.0 k) [
+    linked = λ v link. let there = rib.whole.linked v link in elim (cases_eq there.0 k) [
       | inl same ↦ (
         k,
         record { asn = x.asn; up = up },
         set_here peers k (record { asn = x.asn; up = up }) inside,
-        ap (λ (p : Peer). p.asn) (some_of x there.1 (sym at ∙ ap (λ (n : ℕ). slice_get peers n) (sym same) ∙ there.2)) ∙ there.3,
+        ap (λ (p : Peer). p.asn) (same_Some x there.1 (sym at ∙ ap (λ (n : ℕ). slice_get peers n) (sym same) ∙ there.2)) ∙ there.3,
       )
       | inr apart ↦
           (there.0, there.1, set_there peers k there.0 (record { asn = x.asn; up = up }) apart ∙ there.2, there.3)
@@ -102,7 +101,7 @@ module _ (net : Plan) (router : ℕ) (peers : List Peer) (keys : List PrefixView
       → ((v : ℕ) (p : List ℕ) → p ≢ [] → (h : RowHears (turned up) s.heard (length (turned up)) v p) → (h.place ≡ k) × (h.peer ≡ record { asn = x.asn; up = up }) → ⊥)
       → IsRowBest net router peers r path → IsRowBest net router (turned up) s path
   turned_best up r s path prefix originated same silent none best = row_best_as net router peers (turned up) r s path prefix originated
-      (λ v p some h. elim (same_or_apart h.place k) [
+      (λ v p some h. elim (cases_eq h.place k) [
         | inl here ↦ absurd (silent (speaks_there k r p some (ap (λ (n : ℕ). slice_get r.heard n) (sym here) ∙ h.word)))
         | inr apart ↦
             record {
@@ -145,7 +144,7 @@ module _ (net : Plan) (router : ℕ) (peers : List Peer) (keys : List PrefixView
               let y = from_map (forgetting k) rows i r row in
               elim (peer_of false j p there) [
                 | inl own ↦
-                    let w : waiting ≡ none = some_of waiting none (sym here ∙ ap (λ (n : ℕ). slice_get (set waits k none) n) own.0 ∙ set_here waits k none (let l = rib.told.long in let b = inside in omega (arith, l, b))) in
+                    let w : waiting ≡ none = same_Some waiting none (sym here ∙ ap (λ (n : ℕ). slice_get (set waits k none) n) own.0 ∙ set_here waits k none (let l = rib.told.long in let b = inside in omega (arith, l, b))) in
                     (λ t. absurd (both_ways (has waiting i) (ap (λ (s : PlaceSet). has s i) w ∙ empty i) t), λ u. absurd (false≢true (sym (ap (λ (z : Peer). z.up) own.1) ∙ u.0)))
                 | inr other ↦
                     subst (λ (s : Row). has waiting i ≡ true ↔ ((p.up ≡ true) × (slice_get s.sent j ≢ Some (Sequence s.kept)))) (sym y.2)
@@ -175,7 +174,7 @@ module _ (net : Plan) (router : ℕ) (peers : List Peer) (keys : List PrefixView
       each = λ j p waiting there here i r row.
           elim (peer_of true j p there) [
             | inl own ↦
-                let w : waiting ≡ untold = some_of waiting untold (sym here ∙ ap (λ (n : ℕ). slice_get (set waits k untold) n) own.0 ∙ set_here waits k untold (let l = rib.told.long in let b = inside in omega (arith, l, b))) in
+                let w : waiting ≡ untold = same_Some waiting untold (sym here ∙ ap (λ (n : ℕ). slice_get (set waits k untold) n) own.0 ∙ set_here waits k untold (let l = rib.told.long in let b = inside in omega (arith, l, b))) in
                 let up : p.up ≡ true = ap (λ (z : Peer). z.up) own.1 in
                 let t = tells i r row in (
                   λ in_it. (up, λ e. t.0 (ap (λ (s : PlaceSet). has s i) (sym w) ∙ in_it) (ap (λ (n : ℕ). slice_get r.sent n) (sym own.0) ∙ e)),
@@ -192,7 +191,7 @@ module _ {X Y : Type 0} (test : X → Bool) (value : X → Y) where
   pub picks : (xs : List X) (i : ℕ) (x : X) → slice_get xs i ≡ Some x → test x ≡ true → Contains (picked test value xs) (value x)
   picks [] i x at up = absurd (let lt = slice_get_within [] i x at in omega (arith, lt))
   picks (y ∷ ys) zero x at up =
-      let same : y ≡ x = some_of y x at in
+      let same : y ≡ x = same_Some y x at in
       subst (λ (l : List Y). Contains l (value x)) (sym (cond-true (test y) (value y ∷ picked test value ys) (picked test value ys) (ap test same ∙ up)))
       (subst (λ (v : Y). Contains (value y ∷ picked test value ys) v) (ap value same) (Contains-get_or (value y ∷ picked test value ys) 0 (value y) (omega arith)))
   picks (y ∷ ys) (suc i) x at up =
@@ -264,15 +263,15 @@ rises_view net router peers after rows k x at is = subst (λ (ps : List Peer). C
     lt = slice_get_within peers k x at
 
     new_to_old : (v : ℕ) → ((j : ℕ) × (p : Peer) × (slice_get turned_up j ≡ Some p) × (p.up ≡ true) × (p.asn ≡ v)) → (v ≡ x.asn) ⊎ Contains (established_in peers) v
-    new_to_old v h = elim (same_or_apart h.0 k) [
-      | inl same ↦ inl (sym h.4 ∙ ap (λ (p : Peer). p.asn) (some_of h.1 risen (sym h.2 ∙ ap (λ (n : ℕ). slice_get turned_up n) same ∙ set_here peers k risen lt)))
+    new_to_old v h = elim (cases_eq h.0 k) [
+      | inl same ↦ inl (sym h.4 ∙ ap (λ (p : Peer). p.asn) (same_Some h.1 risen (sym h.2 ∙ ap (λ (n : ℕ). slice_get turned_up n) same ∙ set_here peers k risen lt)))
       | inr apart ↦
           inr (subst (Contains (established_in peers)) h.4 (up_listed peers h.0 h.1 (sym (set_there peers k h.0 risen apart) ∙ h.2) h.3))
     ]
 
     old_to_new : (v : ℕ) → ((j : ℕ) × (p : Peer) × (slice_get peers j ≡ Some p) × (p.up ≡ true) × (p.asn ≡ v)) → Contains (established_in turned_up) v
-    old_to_new v h = elim (same_or_apart h.0 k) [
-      | inl same ↦ subst (Contains (established_in turned_up)) (sym (ap (λ (p : Peer). p.asn) (some_of h.1 x (sym h.2 ∙ ap (λ (n : ℕ). slice_get peers n) same ∙ at))) ∙ h.4) (up_listed turned_up k risen (set_here peers k risen lt) refl)
+    old_to_new v h = elim (cases_eq h.0 k) [
+      | inl same ↦ subst (Contains (established_in turned_up)) (sym (ap (λ (p : Peer). p.asn) (same_Some h.1 x (sym h.2 ∙ ap (λ (n : ℕ). slice_get peers n) same ∙ at))) ∙ h.4) (up_listed turned_up k risen (set_here peers k risen lt) refl)
       | inr apart ↦
           subst (Contains (established_in turned_up)) h.4 (up_listed turned_up h.0 h.1 (set_there peers k h.0 risen apart ∙ h.2) h.3)
     ]
@@ -292,7 +291,7 @@ module _ (net : Plan) (router : ℕ) (peers : List Peer) (keys : List PrefixView
     ];
     others = λ v q apart. same_word net router peers keys rows whole (forgetting k) (λ s. refl) line long v q (λ i j r p there is here e.
         ap (λ (ws : List Word). slice_get ws j) (emptied r)
-        ∙ set_there (line r) k j nothing (λ same. apart (sym e ∙ ap (λ (y : Peer). y.asn) (some_of p x (sym here ∙ ap (λ (n : ℕ). slice_get peers n) same ∙ at)))));
+        ∙ set_there (line r) k j nothing (λ same. apart (sym e ∙ ap (λ (y : Peer). y.asn) (same_Some p x (sym here ∙ ap (λ (n : ℕ). slice_get peers n) same ∙ at)))));
   }
 
 pub forgets_view : (net : Plan) (router : ℕ) (peers after : List Peer) (keys : List PrefixView) (rows new : List Row) → AreRows net router peers keys rows → (k : ℕ) (x : Peer) → slice_get peers k ≡ Some x
@@ -332,16 +331,16 @@ forgets_view net router peers after keys rows new whole k x at is are =
     same_numbers = map-set_same (λ (p : Peer). p.asn) peers k fallen x (sym (ap (λ (p : Peer). p.asn) (get_or_from_slice_get peers k x x at)))
 
     new_to_old : (v : ℕ) → ((j : ℕ) × (p : Peer) × (slice_get turned_down j ≡ Some p) × (p.up ≡ true) × (p.asn ≡ v)) → (v ≢ x.asn) × Contains (established_in peers) v
-    new_to_old v h = elim (same_or_apart h.0 k) [
-      | inl same ↦ absurd (false≢true (sym (ap (λ (p : Peer). p.up) (some_of h.1 fallen (sym h.2 ∙ ap (λ (n : ℕ). slice_get turned_down n) same ∙ set_here peers k fallen lt))) ∙ h.3))
+    new_to_old v h = elim (cases_eq h.0 k) [
+      | inl same ↦ absurd (false≢true (sym (ap (λ (p : Peer). p.up) (same_Some h.1 fallen (sym h.2 ∙ ap (λ (n : ℕ). slice_get turned_down n) same ∙ set_here peers k fallen lt))) ∙ h.3))
       | inr apart ↦
           let there = sym (set_there peers k h.0 fallen apart) ∙ h.2 in
           (λ e. apart (peer_once peers whole.apart h.0 k h.1 x there at (h.4 ∙ e)), subst (Contains (established_in peers)) h.4 (up_listed peers h.0 h.1 there h.3))
     ]
 
     old_to_new : (v : ℕ) → (v ≢ x.asn) → ((j : ℕ) × (p : Peer) × (slice_get peers j ≡ Some p) × (p.up ≡ true) × (p.asn ≡ v)) → Contains (established_in turned_down) v
-    old_to_new v other h = elim (same_or_apart h.0 k) [
-      | inl same ↦ absurd (other (sym h.4 ∙ ap (λ (p : Peer). p.asn) (some_of h.1 x (sym h.2 ∙ ap (λ (n : ℕ). slice_get peers n) same ∙ at))))
+    old_to_new v other h = elim (cases_eq h.0 k) [
+      | inl same ↦ absurd (other (sym h.4 ∙ ap (λ (p : Peer). p.asn) (same_Some h.1 x (sym h.2 ∙ ap (λ (n : ℕ). slice_get peers n) same ∙ at))))
       | inr apart ↦
           subst (Contains (established_in turned_down)) h.4 (up_listed turned_down h.0 h.1 (set_there peers k h.0 fallen apart ∙ h.2) h.3)
     ]

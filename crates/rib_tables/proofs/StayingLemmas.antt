@@ -2,10 +2,11 @@
 use Rattle.std.proofs.Common.{◌≡◌, ◌≢◌, ℕ, ◌<◌, true, false, List, [], ◌∷◌, length, set, drop, sym, ap, subst, ◌∙◌, inl, inr, ◌⊎◌, Some}
 use Rattle.std.specs.List.{slice_get}
 use Rattle.std.proofs.lemmas.List.{length-set}
-use Rattle.std.proofs.lemmas.Option.{slice_get_within}
+use Rattle.std.proofs.lemmas.Option.{slice_get_within, same_Some}
+use Rattle.std.proofs.lemmas.Bool.{cases_eq}
 use Rattle.prefix_lanes.specs.Bits.{PrefixView}
-use Rattle.ranked_policy.specs.Orders.{IsStrictTotalOrder}
 use Rattle.ranked_policy.specs.Choosing.{chosen_permits, chosen_prefers}
+use Rattle.ranked_policy.specs.Choices.{IsFirstOrNone, IsTaken}
 use Rattle.ranked_policy.specs.Plans.{Plan, IsNetwork}
 use Rattle.ranked_policy.specs.Policies.{Table, IsTableOf, IsPermitted, IsPreferred}
 use Rattle.ranked_policy.specs.Promises.{EachPolicyIsAnOrder}
@@ -16,46 +17,10 @@ use Rattle.rib_tables.specs.declared.row.Peer.{Peer}
 use Rattle.rib_tables.specs.declared.row.Row.{Row}
 use Rattle.rib_tables.specs.Places.{has}
 use Rattle.rib_tables.specs.Words.{path_in}
-use Rattle.rib_tables.specs.Choices.{IsChoice, IsFirstOrNone}
 use Rattle.rib_tables.specs.Rows.{RowHears, IsRow, IsRowBest, BestStays, StaysDecided, hearing}
 use Rattle.ranked_policy.proofs.OneTable.{table_stands}
-use Rattle.rib_tables.proofs.RowChoices.{some_of, same_or_apart}
+use Rattle.ranked_policy.proofs.ChoiceLemmas.{first_stays}
 use Rattle.rib_tables.proofs.RibLemmas.{set_here, set_there}
-
--- the first stays where what is new is no better, and where the path by which it goes on is heard still
-module _ (table : Table) (q : PrefixView) (order : IsStrictTotalOrder (IsPermitted table q) (IsPreferred table q)) (One Two : ℕ → List ℕ → Type 0) (best : List ℕ) where
-  abbrev Worse : List ℕ → Type 0
-  Worse p = IsPermitted table q (table.router ∷ p) → (best ≡ []) ⊎ IsPreferred table q (table.router ∷ p) best → ⊥
-
-  module _ (holds : (v : ℕ) (p : List ℕ) → p ≢ [] → best ≡ table.router ∷ p → One v p → Two v p) (back : (v : ℕ) (p : List ℕ) → p ≢ [] → Two v p → One v p ⊎ Worse p) where
-    old_or_worse : (path : List ℕ) → (c : IsChoice Two table q path) → IsChoice One table q path ⊎ Worse c.rest
-    old_or_worse path c = elim (back c.peer c.rest c.some c.heard) [
-      | inl h ↦ inl (record { peer = c.peer; rest = c.rest; heard = h; some = c.some; goes_on = c.goes_on; permitted = c.permitted })
-      | inr worse ↦ inr worse
-    ]
-
-    pub first_stays : IsFirstOrNone One table q best → IsFirstOrNone Two table q best
-    first_stays (inr empty) = inr (
-      empty.0,
-      λ other c. elim (old_or_worse other c) [
-        | inl old ↦ empty.1 other old
-        | inr worse ↦ worse (subst (IsPermitted table q) c.goes_on c.permitted) (inl empty.0)
-      ],
-    )
-    first_stays (inl first) =
-        let mine = first.choice in
-        inl (record {
-          choice = record { peer = mine.peer; rest = mine.rest; heard = holds mine.peer mine.rest mine.some mine.goes_on mine.heard; some = mine.some; goes_on = mine.goes_on; permitted = mine.permitted };
-          before = λ other c apart. elim (old_or_worse other c) [
-            | inl old ↦ first.before other old apart
-            | inr worse ↦
-                let may = subst (IsPermitted table q) c.goes_on c.permitted in
-                elim (order.total best (table.router ∷ c.rest) mine.permitted may (λ e. apart (e ∙ sym c.goes_on))) [
-                  | inl better ↦ subst (IsPreferred table q best) (sym c.goes_on) better
-                  | inr theirs ↦ absurd (worse may (inr theirs))
-                ]
-          ];
-        })
 
 behind_router : (x : ℕ) (xs : List ℕ) (path : List ℕ) → path ≡ x ∷ xs → drop 1 path ≡ xs
 behind_router x xs path e = ap (drop 1) e
@@ -68,21 +33,21 @@ module _ (net : Plan) (router : ℕ) (peers : List Peer) (r : Row) (k : ℕ) (w 
 
   module _ (law : EachPolicyIsAnOrder) (is : IsNetwork net) (row : IsRow net router peers r) (said : Word) (at : slice_get r.heard k ≡ Some said)
       (gone : drop 1 r.kept ≢ [] → path_in said ≢ drop 1 r.kept)
-      (worse : path_in w ≢ [] → chosen_permits r.policy (router ∷ path_in w) × ((drop 1 r.kept ≡ []) ⊎ chosen_prefers r.policy (router ∷ path_in w) (router ∷ drop 1 r.kept)) → ⊥) where
+      (worse : path_in w ≢ [] → IsTaken r.policy router (path_in w) (drop 1 r.kept) → ⊥) where
     abbrev n : ℕ
     n = length peers
 
     still : (v : ℕ) (p : List ℕ) (u : ℕ) → p ≢ [] → r.kept ≡ u ∷ p → RowHears peers r.heard n v p → RowHears peers (set r.heard k w) n v p
     still v p u some goes h =
         let apart : h.place ≢ k = λ e.
-        let same : said ≡ Sequence p = some_of said (Sequence p) (sym at ∙ ap (λ (i : ℕ). slice_get r.heard i) (sym e) ∙ h.word) in
+        let same : said ≡ Sequence p = same_Some said (Sequence p) (sym at ∙ ap (λ (i : ℕ). slice_get r.heard i) (sym e) ∙ h.word) in
         let onward = behind_router u p r.kept goes in
         gone (λ none. some (sym onward ∙ none)) (ap path_in same ∙ sym onward) in
         record { place = h.place; below = h.below; peer = h.peer; at = h.at; up = h.up; number = h.number; word = set_there r.heard k h.place w apart ∙ h.word }
 
     said_or_new : (v : ℕ) (p : List ℕ) → k < length r.heard → RowHears peers (set r.heard k w) n v p → RowHears peers r.heard n v p ⊎ (path_in w ≡ p)
-    said_or_new v p inside h = elim (same_or_apart h.place k) [
-      | inl same ↦ inr (ap path_in (some_of w (Sequence p) (sym (set_here r.heard k w inside) ∙ ap (λ (i : ℕ). slice_get (set r.heard k w) i) (sym same) ∙ h.word)))
+    said_or_new v p inside h = elim (cases_eq h.place k) [
+      | inl same ↦ inr (ap path_in (same_Some w (Sequence p) (sym (set_here r.heard k w inside) ∙ ap (λ (i : ℕ). slice_get (set r.heard k w) i) (sym same) ∙ h.word)))
       | inr apart ↦
           inl (record { place = h.place; below = h.below; peer = h.peer; at = h.at; up = h.up; number = h.number; word = sym (set_there r.heard k h.place w apart) ∙ h.word })
     ]
@@ -132,8 +97,8 @@ module _ (router : ℕ) (rows : List Row) (place : ℕ) (row : Row) (at : slice_
   changed = set rows place (hearing k w row)
 
   at_changed : (i : ℕ) (r : Row) → slice_get changed i ≡ Some r → ((i ≡ place) × (hearing k w row ≡ r)) ⊎ ((i ≢ place) × (slice_get rows i ≡ Some r))
-  at_changed i r there = elim (same_or_apart i place) [
-    | inl same ↦ inl (same, some_of (hearing k w row) r (sym (set_here rows place (hearing k w row) (slice_get_within rows place row at)) ∙ ap (λ (j : ℕ). slice_get changed j) (sym same) ∙ there))
+  at_changed i r there = elim (cases_eq i place) [
+    | inl same ↦ inl (same, same_Some (hearing k w row) r (sym (set_here rows place (hearing k w row) (slice_get_within rows place row at)) ∙ ap (λ (j : ℕ). slice_get changed j) (sym same) ∙ there))
     | inr apart ↦
         inr (apart, sym (set_there rows place i (hearing k w row) apart) ∙ there)
   ]

@@ -3,7 +3,7 @@ use Rattle.std.proofs.Common.{◌≡◌, ℕ, zero, suc, true, false, List, [], 
 use Rattle.std.specs.Prelude.{◌==◌}
 use Rattle.std.specs.List.{slice_get}
 use Rattle.std.proofs.lemmas.Bool.{cases_Bool, both_ways, false_from_ne_true, and_from, eq-eqb, eqb-true}
-use Rattle.std.proofs.lemmas.Option.{slice_get_within}
+use Rattle.std.proofs.lemmas.Option.{slice_get_within, same_Some}
 use Rattle.prefix_lanes.specs.Bits.{PrefixView, is_prefix}
 use Rattle.rib_tables.specs.declared.word.Word.{Word}
 use Rattle.rib_tables.specs.Tables.{Said}
@@ -13,7 +13,6 @@ use Rattle.rib_tables.specs.Words.{nothing}
 use Rattle.rib_tables.specs.Tables.{Words, word_of, is_of}
 use Rattle.rib_tables.specs.Rows.{says_in, said_in}
 use Rattle.rib_tables.proofs.WordLemmas.{is_prefix-from, is_of-true, word_of-first, word_of-next}
-use Rattle.rib_tables.proofs.RowChoices.{some_of}
 
 nothing_of : (v : ℕ) (q : PrefixView) → word_of [] v q ≡ nothing
 unfolding word_of
@@ -41,7 +40,7 @@ peer_or_not (x ∷ xs) v = elim (cases_Bool (x.asn == v)) [
 ]
   where
     none_in : (x.asn == v) ≡ false → NoPeer xs v → NoPeer (x ∷ xs) v
-    none_in f none zero p at e = both_ways (x.asn == v) f (eq-eqb x.asn v (ap (λ (y : Peer). y.asn) (some_of x p at) ∙ e))
+    none_in f none zero p at e = both_ways (x.asn == v) f (eq-eqb x.asn v (ap (λ (y : Peer). y.asn) (same_Some x p at) ∙ e))
     none_in f none (suc k) p at e = none k p at e
 
 module _ (v : ℕ) (q : PrefixView) where
@@ -67,7 +66,7 @@ module _ (v : ℕ) (q : PrefixView) where
   hit (y ∷ ys) [] rest k x w once at e word = absurd (let lt = slice_get_within [] k w word in omega (arith, lt))
   hit (y ∷ ys) (u ∷ us) rest zero x w once at e word =
       let s : Said = record { peer = y.asn; prefix = q; word = u } in
-      word_of-first v q s (says_in ys q us ++ rest) (is_of-from s v q (ap (λ (p : Peer). p.asn) (some_of y x at) ∙ e) (is_prefix-from q q refl)) ∙ some_of u w word
+      word_of-first v q s (says_in ys q us ++ rest) (is_of-from s v q (ap (λ (p : Peer). p.asn) (same_Some y x at) ∙ e) (is_prefix-from q q refl)) ∙ same_Some u w word
   hit (y ∷ ys) (u ∷ us) rest (suc k) x w once at e word =
       let s : Said = record { peer = y.asn; prefix = q; word = u } in
       word_of-next v q s (says_in ys q us ++ rest) (not_of s v q (λ same _. absurd (let z = once 0 (suc k) y x refl at (same ∙ sym e) in cc)))
@@ -87,7 +86,7 @@ module _ (v : ℕ) (q : PrefixView) where
         → slice_get rows i ≡ Some r → r.prefix ≡ q → slice_get peers k ≡ Some x → x.asn ≡ v → slice_get (line r) k ≡ Some w → word_of (said_in line peers rows) v q ≡ w
     word_at [] i k r x w once apart at is peer e word = absurd (let lt = slice_get_within [] i r at in omega (arith, lt))
     word_at (s ∷ ss) zero k r x w once apart at is peer e word =
-        let same : s ≡ r = some_of s r at in
+        let same : s ≡ r = same_Some s r at in
         let key : s.prefix ≡ q = ap (λ (y : Row). y.prefix) same ∙ is in
         ap (λ (p : PrefixView). word_of (says_in peers p (line s) ++ said_in line peers ss) v q) key
         ∙ hit peers (line s) (said_in line peers ss) k x w once peer e (ap (λ (y : Row). slice_get (line y) k) same ∙ word)

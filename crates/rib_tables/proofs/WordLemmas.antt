@@ -1,27 +1,24 @@
 -- Prefixes by a test, and words by their look-up.
-use Rattle.std.proofs.Common.{◌≡◌, ℕ, Bool, true, false, List, ◌∷◌, refl, ap, ◌∙◌}
+use Rattle.std.proofs.Common.{◌≡◌, ℕ, Bool, true, false, List, ◌∷◌, refl}
 use Rattle.std.specs.Prelude.{◌==◌}
 use Rattle.std.specs.Bool.{Decides}
 use Rattle.std.specs.List.{Contains}
-use Rattle.std.proofs.lemmas.Bool.{and_parts, and_from, eq-eqb, eqb-true, cond-true, cond-false, false_from_ne_true}
+use Rattle.std.proofs.lemmas.Bool.{and_parts, eqb-true, cond-true, cond-false, false_from_ne_true}
 use Rattle.std.proofs.lemmas.Bool.Decides.{Decides-by_or, Decides-or}
 use Rattle.std.proofs.lemmas.List.Elements.{Decides-contains}
 use Rattle.prefix_lanes.specs.Bits.{PrefixView, is_prefix}
 use Rattle.bgp_codec.specs.declared.update.Update.{Update}
-use Rattle.rib_tables.specs.Tables.{Said}
 use Rattle.rib_tables.specs.Words.{Mentions, lists, mentions}
-use Rattle.rib_tables.specs.Tables.{Words, is_of, word_of}
+use Rattle.rib_tables.specs.Tables.{Said, Words, is_of, word_of}
+use Rattle.ranked_policy.proofs.TestLemmas.{prefix_test}
 
 -- ---- prefixes
 
 pub is_prefix-true : (p q : PrefixView) → is_prefix p q ≡ true → p ≡ q
-is_prefix-true p q t =
-    let parts = and_parts (p.addr == q.addr) (p.len == q.len) t in
-    ap (λ (a : ℕ). record { addr = a; len = p.len }) (eqb-true p.addr q.addr parts.0) ∙ ap (λ (l : ℕ). record { addr = q.addr; len = l }) (eqb-true p.len q.len parts.1)
+is_prefix-true p q = (prefix_test p q).0
 
 pub is_prefix-from : (p q : PrefixView) → p ≡ q → is_prefix p q ≡ true
-is_prefix-from p q e =
-    and_from (p.addr == q.addr) (p.len == q.len) (eq-eqb p.addr q.addr (ap (λ (x : PrefixView). x.addr) e)) (eq-eqb p.len q.len (ap (λ (x : PrefixView). x.len) e))
+is_prefix-from p q = (prefix_test p q).1
 
 pub decides_lists : (ps : List PrefixView) (q : PrefixView) → Decides (lists ps q) (Contains ps q)
 decides_lists ps q =

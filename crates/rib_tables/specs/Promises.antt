@@ -5,8 +5,9 @@ use mathlib.Core.Logic.{◌⊎◌}
 use Rattle.prefix_lanes.specs.Bits.{PrefixView}
 use Rattle.bgp_codec.specs.declared.update.Update.{Update}
 use Rattle.ranked_policy.specs.declared.network.Origin.{Origin}
-use Rattle.ranked_policy.specs.Plans.{Plan, IsNamed, Linked}
+use Rattle.ranked_policy.specs.Plans.{IsNamed, Linked}
 use Rattle.ranked_policy.specs.Policies.{Table, IsTableOf}
+use Rattle.ranked_policy.specs.Choices.{HasPathOver}
 use Rattle.rib_tables.specs.declared.word.Word.{Word}
 use Rattle.rib_tables.specs.declared.word.Word.TheVariants.{Sequence}
 use Rattle.rib_tables.specs.Words.{nothing, path_in, Mentions, Says, word_after, last_word}
@@ -74,19 +75,16 @@ LastIsLastMention = (us : List Update) (q : PrefixView) → IsLastWord us q (las
 abbrev pub OneBest : Type 0
 OneBest = (s : SourcesView) → IsSources s → (q : PrefixView) (a b : List ℕ) → IsBest s q a → IsBest s q b → a ≡ b
 
--- where the words heard over the links of the router are the paths of its peers, the choices are those of an assignment of paths:
--- the router, then the path of a linked router
-abbrev pub HasPathOf : Plan → (ℕ → List ℕ) → ℕ → ℕ → List ℕ → Type 0
-HasPathOf net paths u v path = Linked net.links u v × (path ≡ paths v)
-
+-- the words heard over the links of the router are the paths of its peers
 pub record HearsPaths (s : SourcesView) (q : PrefixView) (paths : ℕ → List ℕ) : Type 0 where
   pub linked : (v : ℕ) → (Contains s.established v ↔ Linked s.net.links s.router v)
   pub words : (v : ℕ) → Linked s.net.links s.router v → word_of s.heard v q ≡ Sequence (paths v)
 
+-- then the choices are those of an assignment of paths: the router, then the path of a linked router
 abbrev pub BestAmongPaths : Type 0
 BestAmongPaths =
     (s : SourcesView) (q : PrefixView) (paths : ℕ → List ℕ) → HearsPaths s q paths → (path : List ℕ)
-    → (IsBest s q path ↔ ((table : Table) × IsTableOf s.net s.router table × IsBestOf (Contains s.originated q) (HasPathOf s.net paths s.router) table q path))
+    → (IsBest s q path ↔ ((table : Table) × IsTableOf s.net s.router table × IsBestOf (Contains s.originated q) (HasPathOver s.net.links paths s.router) table q path))
 
 -- the words that a router hears, of all linked routers: an Established peer's word, read as a path, and the empty path
 -- from every other one
@@ -99,4 +97,4 @@ pub record HearsWords (s : SourcesView) (q : PrefixView) (words : ℕ → List �
 abbrev pub BestOverWords : Type 0
 BestOverWords =
     (s : SourcesView) (q : PrefixView) (words : ℕ → List ℕ) → HearsWords s q words → (path : List ℕ)
-    → (IsBest s q path ↔ ((table : Table) × IsTableOf s.net s.router table × IsBestOf (Contains s.originated q) (HasPathOf s.net words s.router) table q path))
+    → (IsBest s q path ↔ ((table : Table) × IsTableOf s.net s.router table × IsBestOf (Contains s.originated q) (HasPathOver s.net.links words s.router) table q path))

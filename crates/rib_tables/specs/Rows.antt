@@ -7,6 +7,7 @@ use Rattle.ranked_policy.specs.declared.limits.TheConstants.{MOST_PREFIXES}
 use Rattle.ranked_policy.specs.Plans.{Plan, IsNetwork, IsRouter, IsOrigin, Linked}
 use Rattle.ranked_policy.specs.Peers.{peers as peers_of}
 use Rattle.ranked_policy.specs.Policies.{Table, IsTableOf, Originates}
+use Rattle.ranked_policy.specs.Choices.{Speaks}
 use Rattle.rib_tables.specs.declared.word.Word.{Word}
 use Rattle.rib_tables.specs.declared.word.Word.TheVariants.{Sequence}
 use Rattle.rib_tables.specs.declared.place_set.PlaceSet.{PlaceSet}
@@ -16,7 +17,7 @@ use Rattle.rib_tables.specs.Places.{has}
 use Rattle.rib_tables.specs.Words.{nothing, announced_word, lists}
 use Rattle.bgp_codec.specs.declared.update.Update.{Update}
 use Rattle.rib_tables.specs.Tables.{Words, Paths}
-use Rattle.rib_tables.specs.Choices.{IsBestOf, Speaks}
+use Rattle.rib_tables.specs.Choices.{IsBestOf}
 use Rattle.rib_tables.specs.Owners.{RibView}
 
 -- ---- what a look-up sees of them
@@ -57,11 +58,6 @@ view_of net router peers rows = record {
 }
 
 -- ---- one prefix
-
--- the path of a router along a way; the empty way gives the empty path
-abbrev pub path_by : ℕ → List ℕ → List ℕ
-path_by router [] = []
-path_by router (v ∷ rest) = router ∷ v ∷ rest
 
 -- this path is heard from one of the first n peers, whose session is Established
 pub record RowHears (peers : List Peer) (heard : List Word) (n : ℕ) (v : ℕ) (path : List ℕ) : Type 0 where

@@ -10,7 +10,7 @@ ghost use Rattle.rib_tables.specs.Words.{nothing, TellsPath};
 ghost use Rattle.rib_tables.specs.Tables.{word_of, path_of};
 ghost use Rattle.rib_tables.specs.Least.{HoldsOfAll, IsLeastWithout};
 ghost use Rattle.rib_tables.specs.Choices.{IsBest, IsSources};
-ghost use Rattle.rib_tables.specs.Owners.{sources_of, IsSettled, IsServed, HasWaitingPeer, AllServed, IsPending, IsNew, HearsUpdate, TellsKept, ComesUp, ForgetsPeer, Originating, Withdrawing, KeepsPath, Decides, Clears};
+ghost use Rattle.rib_tables.specs.Owners.{sources_of, IsSettled, IsServed, HasWaitingPeer, AllServed, IsPending, IsNew, HearsUpdate, TellsKept, ComesUp, ForgetsPeer, Originating, Withdrawing, Decides, Clears};
 
 use crate::changes::{
     clear_all, forget_all, hear_path, hear_update, keep_at, mark_words, originate_at, place_of,
@@ -180,16 +180,6 @@ impl<'a> Rib<'a> {
         ensures err { OnErr result (self.new ≡ self.old) }
     {
         let place = self.peer_place(peer);
-        self.hear_at(place, peer, update)
-    }
-
-    /// Does what [`Rib::hear`] does, and is refused as it is, for the peer at a place among the router's peers, by
-    /// rising number.
-    pub fn hear_at(&mut self, place: usize, peer: Asn, update: &Update) -> Result<(), RibError>
-        requires stands { slice_get (peers self.old.net self.old.router) place ≡ Some peer }
-        ensures ok { OnOk result (HearsUpdate self.old self.new peer update.now) }
-        ensures err { OnErr result (self.new ≡ self.old) }
-    {
         let alloc = *self.peers.allocator();
         let rows = &mut self.rows;
         let dirty = &mut self.dirty;
@@ -249,15 +239,6 @@ impl<'a> Rib<'a> {
         ensures { ComesUp self.old self.new peer }
     {
         let place = self.peer_place(peer);
-        self.come_up_at(place, peer);
-    }
-
-    /// Does what [`Rib::come_up`] does, for the peer at a place among the router's peers, by rising number. It takes no
-    /// memory.
-    pub fn come_up_at(&mut self, place: usize, peer: Asn)
-        requires stands { slice_get (peers self.old.net self.old.router) place ≡ Some peer }
-        ensures { ComesUp self.old self.new peer }
-    {
         mark_words(self.rows.as_slice(), &mut self.dirty, place);
         set_up(&mut self.peers, place, true);
         self.waits[place] = unadvertised(self.rows.as_slice(), place);
@@ -270,15 +251,6 @@ impl<'a> Rib<'a> {
         ensures { ForgetsPeer self.old self.new peer }
     {
         let place = self.peer_place(peer);
-        self.forget_at(place, peer);
-    }
-
-    /// Does what [`Rib::forget`] does, for the peer at a place among the router's peers, by rising number. It takes no
-    /// memory.
-    pub fn forget_at(&mut self, place: usize, peer: Asn)
-        requires stands { slice_get (peers self.old.net self.old.router) place ≡ Some peer }
-        ensures { ForgetsPeer self.old self.new peer }
-    {
         let alloc = *self.peers.allocator();
         forget_all(alloc, &mut self.rows, &mut self.dirty, place);
         set_up(&mut self.peers, place, false);
@@ -310,17 +282,6 @@ impl<'a> Rib<'a> {
         ensures { Withdrawing self.old self.new prefix.now }
     {
         self.set_originated(prefix, false);
-    }
-
-    /// Keeps a path for a prefix of the network in place of what was kept. It takes no memory.
-    pub fn set(&mut self, prefix: &Prefix, path: Path)
-        requires { IsNamed self.old.net.origins prefix.now }
-        ensures { KeepsPath self.old self.new prefix.now path }
-    {
-        let place = place_of(&self.keys, prefix).unwrap();
-        self.dirty.put(place);
-        let peers = self.peers.as_slice();
-        keep_at(peers, &mut self.rows, &mut self.waits, place, path);
     }
 
     /// Restarts: no path is kept then, and nothing is originated. It takes no memory.
@@ -428,7 +389,7 @@ impl<'a> Rib<'a> {
         false
     }
 
-    /// Whether it is seen without a look at a path that nothing is to be done: each kept path is the best, and each
+    /// Whether it shows, without a look at any path, that nothing is to be done: each kept path is the best, and each
     /// Established peer was told each of them. `false` says nothing. It takes no memory.
     pub fn has_nothing_to_do(&self) -> bool
         ensures { result ≡ true → HoldsOfAll self.now.net.origins (IsSettled self.now) × AllServed self.now }

@@ -1,22 +1,20 @@
 //! The row of one prefix, and the entry of one peer.
 
-ghost use Rattle.std.specs.Prelude.{◌≡◌, ◌≢◌, ◌<◌, ◌≤◌, ◌↔◌, ◌⊎◌, ◌∷◌, ℕ, [], true, drop, length, slice_get, Some, IfOk, IfSome, IsTrue, MatchOption, if◌then◌else◌};
+ghost use Rattle.std.specs.Prelude.{◌≡◌, ◌≢◌, ◌<◌, ◌≤◌, ◌↔◌, ◌∷◌, ℕ, [], true, drop, length, slice_get, Some, IfOk, IfSome, IsTrue, MatchOption, if◌then◌else◌};
 ghost use Rattle.prefix_lanes.specs.Bits.{PrefixView};
-ghost use Rattle.ranked_policy.specs.Choosing.{chosen_permits, chosen_prefers};
+ghost use Rattle.ranked_policy.specs.Choices.{IsFirstOrNone, Speaks, path_by};
 ghost use Rattle.ranked_policy.specs.Plans.{Plan, IsNetwork, IsRouter};
 ghost use Rattle.ranked_policy.specs.Policies.{Table, IsTable};
 ghost use Rattle.rib_tables.specs.declared.row.Row.{Row};
 ghost use Rattle.rib_tables.specs.Words.{path_in};
-ghost use Rattle.rib_tables.specs.Choices.{IsFirstOrNone, Speaks};
-ghost use Rattle.rib_tables.specs.Rows.{RowHears, IsRow, IsRowBest, AreDecided, AreJudged, AllBest, BestStays, IsFirstUndecided, path_by};
+ghost use Rattle.rib_tables.specs.Rows.{RowHears, IsRow, IsRowBest, AreDecided, AreJudged, AllBest, BestStays, IsFirstUndecided};
 
 use crate::line::Line;
-use crate::paths::is_path;
 use crate::place_set::PlaceSet;
 use crate::word::Word;
 use prefix_lanes::Prefix;
 use ranked_policy::laws::each_policy_is_an_order;
-use ranked_policy::{Asn, Chosen, MOST_PREFIXES, Path};
+use ranked_policy::{Asn, Chosen, MOST_PREFIXES, Path, is_onward, is_same_path};
 use std::alloc::{AllocError, Global};
 
 /// A peer of the router.
@@ -56,17 +54,6 @@ impl Row<'_> {
     }
 }
 
-// Whether the path along `rest` is permitted, and either none was yet or it is preferred to the
-// best so far.
-fn is_taken(policy: &Chosen, router: Asn, rest: &[Asn], best: &[Asn]) -> bool
-    ensures { IsTrue result
-        ↔ (chosen_permits policy.now (router ∷ rest.now)
-        × ((best.now ≡ []) ⊎ chosen_prefers policy.now (router ∷ rest.now) (router ∷ best.now))) }
-{
-    (best.is_empty() || policy.prefers_onward(router, rest, best))
-        && policy.permits_onward(router, rest)
-}
-
 // The best choice over the words of the Established peers, without the router in front. Empty if
 // there is no choice.
 pub(crate) fn best_onward<'a>(
@@ -83,10 +70,7 @@ pub(crate) fn best_onward<'a>(
     let mut best: &[Asn] = &[];
     for (place, peer) in peers.iter().enumerate() {
         if peer.up {
-            let rest = heard[place].path();
-            if !rest.is_empty() && is_taken(policy, router, rest, best) {
-                best = rest;
-            }
+            best = policy.better_onward(router, heard[place].path(), best);
         }
     }
     best
@@ -115,10 +99,7 @@ fn goes_on(kept: &[Asn], router: Asn, way: Option<&[Asn]>) -> bool
     ensures { IsTrue result ↔ MatchOption way.entry (kept.now ≡ []) (λ rest. kept.now ≡ router ∷ rest.now) }
 {
     match way {
-        Some(rest) => match kept {
-            [first, others @ ..] => *first == router && is_path(others, rest),
-            [] => false,
-        },
+        Some(rest) => is_onward(kept, router, rest),
         None => kept.is_empty(),
     }
 }
@@ -176,7 +157,7 @@ fn onward(path: &[Asn]) -> &[Asn]
 fn gives(word: &Word, way: &[Asn]) -> bool
     ensures { IsTrue result ↔ ((way.now ≢ []) × (path_in word.now ≡ way.now)) }
 {
-    !way.is_empty() && is_path(word.path(), way)
+    !way.is_empty() && is_same_path(word.path(), way)
 }
 
 // Whether the kept path of a row, if it is the best, is known to stay so when the peer at a place
@@ -198,7 +179,7 @@ pub(crate) fn stays_best(router: Asn, row: &Row, peer: usize, word: &Word) -> bo
         return false;
     }
     let rest = word.path();
-    rest.is_empty() || !is_taken(&row.policy, router, rest, best)
+    rest.is_empty() || !row.policy.takes_onward(router, rest, best)
 }
 
 // The path of the router along a way; the empty path without a way.

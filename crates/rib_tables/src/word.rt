@@ -3,10 +3,9 @@
 ghost use Rattle.std.specs.Prelude.{◌≡◌, ◌↔◌, [], IsTrue, IfOk, MatchOption};
 ghost use Rattle.rib_tables.specs.Words.{announced_word, segments_word, nothing, path_in};
 
-use crate::paths::is_path;
 use crate::refusal::RibError;
 use bgp_codec::{Attrs, Segment, SegmentKind};
-use ranked_policy::{Asn, Path};
+use ranked_policy::{Asn, Path, is_same_path};
 use std::alloc::Global;
 
 /// What a peer says of a prefix (RFC 4271 section 4.3, AS_PATH).
@@ -44,7 +43,7 @@ impl Word {
         ensures { IsTrue result ↔ (self.now ≡ Word.Sequence numbers.now) }
     {
         match self {
-            Word::Sequence(path) => is_path(path.as_slice(), numbers),
+            Word::Sequence(path) => is_same_path(path.as_slice(), numbers),
             Word::Other => false,
         }
     }

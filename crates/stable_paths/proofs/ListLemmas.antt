@@ -2,25 +2,11 @@
 use Rattle.std.proofs.Common.{◌≡◌, ◌≢◌, ℕ, zero, suc, ◌+◌, ◌<◌, Bool, true, false, cond, List, [], ◌∷◌, ◌++◌, length, take, set, get_or, refl, sym, ap, subst, ◌∙◌, eq-eqb, ne_eqb, arith, inl, inr, ◌⊎◌}
 use Rattle.std.specs.Prelude.{◌==◌, IsTrue}
 use Rattle.std.specs.List.{All, Any}
-use Rattle.std.specs.Str.{bytes_eq}
-use Rattle.std.proofs.lemmas.Bool.{cases_Bool, cases_order, both_ways, eqb-true}
+use Rattle.std.proofs.lemmas.Bool.{cases_order, eqb-true}
 use Rattle.std.proofs.lemmas.List.{length-append, get_or_append_left}
 use Rattle.std.proofs.Math.Seq.{get_or-append_seam}
-use Rattle.std.proofs.lemmas.Slice.Eq.{bytes_eq-Decides}
 use Rattle.stable_paths.specs.declared.assignment.Assigned.{Assigned}
 use Rattle.stable_paths.specs.Stable.{path_of}
-
--- two paths are the same or not
-pub same_or_not : (p q : List ℕ) → (p ≡ q) ⊎ (p ≢ q)
-same_or_not p q = let says = bytes_eq-Decides p q in
-    elim (cases_Bool (bytes_eq p q)) [ inl t ↦ inl (says.0 t) | inr f ↦ inr (λ e. both_ways (bytes_eq p q) f (says.1 e)) ]
-
-pub not_empty : (xs : List ℕ) → (length xs == 0) ≡ false → xs ≢ []
-not_empty xs f e = let t = eq-eqb (length xs) 0 (ap length e) in absurd (let both = sym f ∙ t in cc)
-
-pub in_either : {A B C : Type 0} → A ⊎ B → (B → C) → A ⊎ C
-in_either (inl a) f = inl a
-in_either (inr b) f = inr (f b)
 
 pub never : IsTrue false → ⊥
 never e = absurd cc

@@ -12,9 +12,11 @@ use Rattle.ranked_policy.specs.declared.network.Link.{Link}
 use Rattle.ranked_policy.specs.Plans.{Plan, IsNetwork, IsRouter, IsOrigin, Linked, Joins, numbers}
 use Rattle.ranked_policy.specs.Policies.{Table, IsTableOf, Originates, IsPermitted}
 use Rattle.ranked_policy.specs.Tests.{originates, best_of, BestIsFirst, PermitsIsATest}
-use Rattle.stable_paths.specs.Stable.{IsChoice, IsFirstOrNone, IsBestOf, IsBest}
+use Rattle.ranked_policy.specs.Choices.{HasPathOver, IsChoice, IsFirstOrNone}
+use Rattle.stable_paths.specs.Stable.{IsBestOf, IsBest}
 use Rattle.stable_paths.specs.ByRank.{rules_of, table_of, peers_over, with_choice, choices_of, best_by_rank, BestByRankIsBest, EachNetworkHasItsModel}
 use Rattle.ranked_policy.proofs.OneTable.{table_stands}
+use Rattle.ranked_policy.proofs.TestLemmas.{contains_cons, origin_test}
 use Rattle.stable_paths.proofs.TableLemmas.{linked_is}
 
 -- ---- the table of a router
@@ -49,9 +51,6 @@ any_here P l ls p = (0, l, omega arith, refl, p)
 uncons : {A : Type 0} (P : Link → Type 0) (l : Link) (ls : List Link) → Any P (l ∷ ls) → (P l → A) → (Any P ls → A) → A
 uncons P l ls (zero, x, lt, e, p) one rest = one (subst P (sym e) p)
 uncons P l ls (suc k, x, lt, e, p) one rest = rest (k, x, omega (arith, lt), e, p)
-
-contains_cons : {X : Type 0} (x : X) (xs : List X) (y : X) → Contains xs y → Contains (x ∷ xs) y
-contains_cons x xs y c = (suc c.0, omega (arith, c.1), c.2)
 
 contains_here : {X : Type 0} (x : X) (xs : List X) (y : X) → x ≡ y → Contains (x ∷ xs) y
 contains_here x xs y e = (0, omega arith, e)
@@ -142,49 +141,20 @@ choice_to u (w ∷ vs) words v c some = at (words w) refl (λ k. choice_to u vs 
         (λ same. contains_here (u ∷ x ∷ xs) (choices_of u vs words) (u ∷ words v) (ap (λ l. u ∷ l) (sym e ∙ ap words same)))
         (λ k. contains_cons (u ∷ x ∷ xs) (choices_of u vs words) (u ∷ words v) (rest k))
 
-origin_test : (t : Table) (q : PrefixView) (u : ℕ) → Decides (originates t q u) (Originates t q u)
-origin_test t q u = (
-  λ h. let a = Any-from_list_any (λ o. is_prefix o.prefix q && (o.router == u)) t.origins h in
-      let is = here (is_prefix a.1.prefix q) (a.1.router == u) a.4 in
-      (a.0, a.1, a.2, a.3, (prefix_is a.1.prefix q is.0, (let b = is.1 in grind (arith, nat_tests, b)))),
-  λ a. list_any-from_Any (λ o. is_prefix o.prefix q && (o.router == u)) t.origins
-      (a.0, a.1, a.2, a.3, there (is_prefix a.1.prefix q) (a.1.router == u) (is_same a.1.prefix q a.4.0) (let b = a.4.1 in grind (arith, nat_tests, b))),
-)
-  where
-    here : (a b : Bool) → (a && b) ≡ true → (a ≡ true) × (b ≡ true)
-    here true true h = (refl, refl)
-    here true false h = absurd (false≢true h)
-    here false b h = absurd (false≢true h)
-
-    there : (a b : Bool) → a ≡ true → b ≡ true → (a && b) ≡ true
-    there true b x y = y
-    there false b x y = absurd (false≢true x)
-
-    prefix_is : (p r : PrefixView) → is_prefix p r ≡ true → p ≡ r
-    prefix_is p r h =
-        let k = here (p.addr == r.addr) (p.len == r.len) h in
-        let a : p.addr ≡ r.addr = (let b = k.0 in grind (arith, nat_tests, b)) in
-        let l : p.len ≡ r.len = (let b = k.1 in grind (arith, nat_tests, b)) in
-        λ i. record { addr = a i; len = l i }
-
-    is_same : (p r : PrefixView) → p ≡ r → is_prefix p r ≡ true
-    is_same p r e =
-        let a : p.addr ≡ r.addr = ap (λ x. x.addr) e in
-        let l : p.len ≡ r.len = ap (λ x. x.len) e in
-        there (p.addr == r.addr) (p.len == r.len) (grind (arith, nat_tests, a)) (grind (arith, nat_tests, l))
-
 module _ (permits : PermitsIsATest) (law : BestIsFirst) where
   -- the first of the choices in the list is the first of the choices over the links
   first_over : (net : Plan) → IsNetwork net → (u : ℕ) → IsRouter net.routers u → (q : PrefixView) (words : ℕ → List ℕ)
-      → IsFirstOrNone net.links q words (table_of net u) (best_of (table_of net u) q (choices_of u (peers_over net.links u) words))
+      → IsFirstOrNone (HasPathOver net.links words u) (table_of net u) q (best_of (table_of net u) q (choices_of u (peers_over net.links u) words))
   first_over net is u router q words =
       let t : Table = table_of net u in
       let choices : List (List ℕ) = choices_of u (peers_over net.links u) words in
-      let listed : (path : List ℕ) → IsChoice net.links q words t path → Contains choices path = λ path c.
-      subst (Contains choices) (sym c.goes_on) (choice_to u (peers_over net.links u) words c.peer (linked_peer net.links u c.peer c.linked (linked_apart net is u c.peer c.linked)) c.some) in
-      let chosen : (path : List ℕ) → Contains choices path → IsPermitted t q path → IsChoice net.links q words t path = λ path c may.
+      let Hears : ℕ → List ℕ → Type 0 = HasPathOver net.links words u in
+      let listed : (path : List ℕ) → IsChoice Hears t q path → Contains choices path = λ path c.
+      subst (Contains choices) (sym (c.goes_on ∙ ap (λ (r : List ℕ). u ∷ r) c.heard.1))
+      (choice_to u (peers_over net.links u) words c.peer (linked_peer net.links u c.peer c.heard.0 (linked_apart net is u c.peer c.heard.0)) (λ none. c.some (c.heard.1 ∙ none))) in
+      let chosen : (path : List ℕ) → Contains choices path → IsPermitted t q path → IsChoice Hears t q path = λ path c may.
       (let k = choice_from u (peers_over net.links u) words path c in
-      record { peer = k.0; linked = peer_linked net.links u k.0 k.1; some = k.2; goes_on = k.3; permitted = may }) in
+      record { peer = k.0; rest = words k.0; heard = (peer_linked net.links u k.0 k.1, refl); some = k.2; goes_on = k.3; permitted = may }) in
       elim (law t (table_stands net u t is (table_is net u router)) q choices) [
         | inl first ↦ inl (record {
           choice = chosen (best_of t q choices) first.listed first.permitted;

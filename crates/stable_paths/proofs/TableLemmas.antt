@@ -3,7 +3,7 @@ use Rattle.std.proofs.Common.{◌≡◌, ◌≢◌, ℕ, zero, suc, ◌+◌, ◌
 use Rattle.std.specs.Prelude.{◌↔◌, IsTrue, slice_index}
 use Rattle.std.specs.List.{AllPairs}
 use Rattle.std.proofs.lemmas.Bool.{cases_order}
-use Rattle.std.proofs.lemmas.List.{length-map, get_or-map}
+use Rattle.std.proofs.lemmas.List.{length-map, get_or-map, get_or_default}
 use Rattle.prefix_lanes.specs.Bits.{PrefixView}
 use Rattle.ranked_policy.specs.declared.network.NetRouter.{NetRouter}
 use Rattle.ranked_policy.specs.declared.network.Origin.{Origin}
@@ -12,11 +12,12 @@ use Rattle.ranked_policy.specs.Plans.{Plan, IsNetwork, IsRouter, IsOrigin, Linke
 use Rattle.ranked_policy.specs.Policies.{Table, IsTable, IsTableOf, Originates, IsPermitted}
 use Rattle.ranked_policy.specs.Promises.{EachPolicyIsAnOrder}
 use Rattle.run_model.specs.Routes.{Network}
-use Rattle.stable_paths.specs.Stable.{Problem, IsProblem, own_path, IsChoice, IsFirstOrNone, IsBestOf, IsBest, IsStable, MayHave}
+use Rattle.stable_paths.specs.Stable.{Problem, IsProblem, own_path, IsBestOf, IsBest, IsStable, MayHave}
 use Rattle.stable_paths.specs.Judging.{IsLeastWithout, IsMoving}
 use Rattle.stable_paths.specs.Promises.{OneBest, NoOriginNoPath, Chooses, StableIsTheModels}
-use Rattle.stable_paths.proofs.ChoiceLemmas.{first_once}
-use Rattle.ranked_policy.proofs.OneTable.{one_table, table_stands, within}
+use Rattle.ranked_policy.specs.Choices.{HasPathOver}
+use Rattle.ranked_policy.proofs.ChoiceLemmas.{first_once, first_as}
+use Rattle.ranked_policy.proofs.OneTable.{one_table, table_stands}
 
 -- an origin by what the code asked, and by the definition
 -- the own path of a router that originates the prefix
@@ -38,7 +39,7 @@ pub best_once : EachPolicyIsAnOrder → (p : Problem) → IsProblem p → (paths
 best_once law p is paths t a b table (inl x) (inl y) = x.1 ∙ sym y.1
 best_once law p is paths t a b table (inl x) (inr y) = absurd (y.0 x.0)
 best_once law p is paths t a b table (inr x) (inl y) = absurd (x.0 y.0)
-best_once law p is paths t a b table (inr x) (inr y) = first_once p.prefix paths t (law t table p.prefix) p.net.links a b x.1 y.1
+best_once law p is paths t a b table (inr x) (inr y) = first_once (HasPathOver p.net.links paths t.router) t p.prefix (law t table p.prefix) a b x.1 y.1
 
 pub one_best : EachPolicyIsAnOrder → OneBest
 one_best law p is paths u a b x y =
@@ -65,7 +66,7 @@ module _ (Q : ℕ → Type 0) (routers : List NetRouter) where
   pub each_all : (n : ℕ) → length routers ≤ n → ((k : ℕ) → k < n → Q (slice_index (numbers routers) k)) → (u : ℕ) → IsRouter routers u → Q u
   each_all n le inv u router =
       let size : length (numbers routers) ≡ length routers = length-map routers (λ (r : NetRouter). r.asn) in
-      let at : slice_index (numbers routers) router.0 ≡ u = within (numbers routers) router.0 0 u router.1 ∙ router.2 in
+      let at : slice_index (numbers routers) router.0 ≡ u = get_or_default (numbers routers) router.0 0 u router.1 ∙ router.2 in
       subst Q at (inv router.0 (omega (arith, size, router.1, le)))
 
   -- those with lower numbers stand before
@@ -73,7 +74,7 @@ module _ (Q : ℕ → Type 0) (routers : List NetRouter) where
       → (v : ℕ) → IsRouter routers v → v < r.asn → Q v
   each_below i r rising lt is inv v router less =
       let size : length (numbers routers) ≡ length routers = length-map routers (λ (x : NetRouter). x.asn) in
-      let at : slice_index (numbers routers) router.0 ≡ v = within (numbers routers) router.0 0 v router.1 ∙ router.2 in
+      let at : slice_index (numbers routers) router.0 ≡ v = get_or_default (numbers routers) router.0 0 v router.1 ∙ router.2 in
       let here = number_is i r lt is in
       elim (cases_order router.0 i) [
         | inl same ↦ absurd (omega (arith, less, here, at, ap (λ (j : ℕ). slice_index (numbers routers) j) same))
@@ -90,7 +91,7 @@ module _ (Q : ℕ → Type 0) (routers : List NetRouter) where
   stands i r lt is =
       let size : length (numbers routers) ≡ length routers = length-map routers (λ (x : NetRouter). x.asn) in
       let inside : i < length (numbers routers) = omega (arith, size, lt) in
-      (i, inside, within (numbers routers) i r.asn 0 inside ∙ number_is i r lt is)
+      (i, inside, get_or_default (numbers routers) i r.asn 0 inside ∙ number_is i r lt is)
 
 -- the least router that has not its best
 pub moving : EachPolicyIsAnOrder → (p : Problem) → IsProblem p → (paths : ℕ → List ℕ) (routers : List NetRouter) → routers ≡ p.net.routers → (i : ℕ) (r : NetRouter) → i < length routers → r ≡ get_or routers i r
@@ -194,9 +195,9 @@ nothing_on p is none paths stable (suc n) u short router =
       | inl own ↦ own.1 ∙ ap (λ (b : Bool). cond b ((stable u router).0.router ∷ []) []) none
       | inr x ↦ elim x.1 [
         | inl first ↦
-            let shorter : length (paths first.choice.peer) ≤ n = omega (arith, short, ap length first.choice.goes_on) in
-            absurd (first.choice.some
-            (nothing_on p is none paths stable n first.choice.peer shorter (linked_is p.net is.network (stable u router).0.router first.choice.peer first.choice.linked)))
+            let shorter : length (paths first.choice.peer) ≤ n = omega (arith, short, ap length first.choice.goes_on, ap length first.choice.heard.1) in
+            absurd (first.choice.some (first.choice.heard.1
+            ∙ nothing_on p is none paths stable n first.choice.peer shorter (linked_is p.net is.network (stable u router).0.router first.choice.peer first.choice.heard.0)))
         | inr empty ↦ empty.0
       ]
     ]
@@ -206,25 +207,11 @@ no_path_without p is none paths stable u router = nothing_on p is none paths sta
 
 -- ---- what the model of runs calls stable
 
--- words that are the peers' paths give the same choices
-choice_as : (p : Problem) (one other : ℕ → List ℕ) (t : Table) (path : List ℕ) → ((v : ℕ) → Linked p.net.links t.router v → one v ≡ other v) → IsChoice p.net.links p.prefix one t path
-    → IsChoice p.net.links p.prefix other t path
-choice_as p one other t path same c =
-    let e : one c.peer ≡ other c.peer = same c.peer c.linked in
-    record { peer = c.peer; linked = c.linked; some = λ n. c.some (e ∙ n); goes_on = c.goes_on ∙ ap (λ (q : List ℕ). t.router ∷ q) e; permitted = c.permitted }
-
-first_as : (p : Problem) (one other : ℕ → List ℕ) (t : Table) (path : List ℕ) → ((v : ℕ) → Linked p.net.links t.router v → one v ≡ other v)
-    → IsFirstOrNone p.net.links p.prefix one t path → IsFirstOrNone p.net.links p.prefix other t path
-first_as p one other t path same (inl first) =
-    inl (record {
-      choice = choice_as p one other t path same first.choice;
-      before = λ q c apart. first.before q (choice_as p other one t q (λ v l. sym (same v l)) c) apart;
-    })
-first_as p one other t path same (inr none) = inr (none.0, λ q c. none.1 q (choice_as p other one t q (λ v l. sym (same v l)) c))
-
+-- words that are the peers' paths give the same best
 best_as : (p : Problem) (one other : ℕ → List ℕ) (t : Table) (path : List ℕ) → ((v : ℕ) → Linked p.net.links t.router v → one v ≡ other v) → IsBestOf p one t path → IsBestOf p other t path
 best_as p one other t path same (inl origin) = inl origin
-best_as p one other t path same (inr x) = inr (x.0, first_as p one other t path same x.1)
+best_as p one other t path same (inr x) =
+    inr (x.0, first_as t p.prefix (HasPathOver p.net.links one t.router) (HasPathOver p.net.links other t.router) path (λ v q _ h. (h.0, h.1 ∙ same v h.0)) (λ v q _ h. (h.0, h.1 ∙ sym (same v h.0))) x.1)
 
 heard : (b : Bool) (x y : List ℕ) → b ≡ true → cond b x y ≡ x
 heard true x y e = refl

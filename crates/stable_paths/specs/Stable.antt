@@ -1,12 +1,10 @@
 -- Stable path assignments for one prefix (Griffin, Shepherd and Wilfong 2002, section 2).
-use Rattle.std.specs.Prelude.{ℕ, ◌≡◌, ◌≢◌, ◌==◌, ◌↔◌, Bool, true, List, [], ◌∷◌, if◌then◌else◌}
+use Rattle.std.specs.Prelude.{ℕ, ◌≡◌, ◌==◌, Bool, true, List, [], ◌∷◌, if◌then◌else◌}
 use mathlib.Core.Logic.{◌⊎◌}
 use Rattle.prefix_lanes.specs.Bits.{PrefixView}
-use Rattle.ranked_policy.specs.declared.network.Link.{Link}
-use Rattle.ranked_policy.specs.Plans.{Plan, IsNetwork, IsRouter, IsNamed, Linked}
-use Rattle.ranked_policy.specs.Policies.{Table, IsTableOf, Originates, IsPermitted, IsPreferred}
-use Rattle.ranked_policy.specs.declared.policy.Chosen.{Chosen}
-use Rattle.ranked_policy.specs.Choosing.{chosen_permits, chosen_prefers}
+use Rattle.ranked_policy.specs.Plans.{Plan, IsNetwork, IsRouter, IsNamed}
+use Rattle.ranked_policy.specs.Policies.{Table, IsTableOf, Originates, IsPermitted}
+use Rattle.ranked_policy.specs.Choices.{HasPathOver, IsFirstOrNone}
 use Rattle.stable_paths.specs.declared.assignment.Assigned.{Assigned}
 
 -- a prefix of a network, and whether its origin originates it
@@ -29,24 +27,6 @@ abbrev pub path_of : List Assigned → ℕ → List ℕ
 path_of [] u = []
 path_of (a ∷ rest) u = if a.router == u then a.path else path_of rest u
 
--- a choice over these links: a router, then the path of one of its peers, which is not empty; the whole is permitted
-pub record IsChoice (links : List Link) (prefix : PrefixView) (paths : ℕ → List ℕ) (table : Table) (path : List ℕ) : Type 0 where
-  pub peer : ℕ
-  pub linked : Linked links table.router peer
-  pub some : paths peer ≢ []
-  pub goes_on : path ≡ table.router ∷ paths peer
-  pub permitted : IsPermitted table prefix path
-
--- the path is a choice, and is preferred to each other choice
-pub record IsFirst (links : List Link) (prefix : PrefixView) (paths : ℕ → List ℕ) (table : Table) (path : List ℕ) : Type 0 where
-  pub choice : IsChoice links prefix paths table path
-  pub before : (other : List ℕ) → IsChoice links prefix paths table other → path ≢ other → IsPreferred table prefix path other
-
--- the first of the choices, or the empty path if there is no choice
-abbrev pub IsFirstOrNone : List Link → PrefixView → (ℕ → List ℕ) → Table → List ℕ → Type 0
-IsFirstOrNone links prefix paths table path =
-    IsFirst links prefix paths table path ⊎ ((path ≡ []) × ((other : List ℕ) → IsChoice links prefix paths table other → ⊥))
-
 -- the path of the origin: itself alone if it originates the prefix, else the empty path
 abbrev pub own_path : Problem → ℕ → List ℕ
 own_path p router = if p.originated then router ∷ [] else []
@@ -55,7 +35,7 @@ own_path p router = if p.originated then router ∷ [] else []
 abbrev pub IsBestOf : Problem → (ℕ → List ℕ) → Table → List ℕ → Type 0
 IsBestOf p paths table path =
     (Originates table p.prefix table.router × (path ≡ own_path p table.router))
-    ⊎ ((Originates table p.prefix table.router → ⊥) × IsFirstOrNone p.net.links p.prefix paths table path)
+    ⊎ ((Originates table p.prefix table.router → ⊥) × IsFirstOrNone (HasPathOver p.net.links paths table.router) table p.prefix path)
 
 abbrev pub IsBest : Problem → (ℕ → List ℕ) → ℕ → List ℕ → Type 0
 IsBest p paths u path = (table : Table) × IsTableOf p.net u table × IsBestOf p paths table path
@@ -67,8 +47,3 @@ IsStable p paths = (u : ℕ) → IsRouter p.net.routers u → IsBest p paths u (
 -- a router may have the empty path, or one that it permits
 abbrev pub MayHave : Plan → PrefixView → ℕ → List ℕ → Type 0
 MayHave net prefix u path = (path ≡ []) ⊎ ((table : Table) × IsTableOf net u table × IsPermitted table prefix path)
-
--- for a prefix, a policy of the code permits and prefers the same paths as the router of a table
-pub record Speaks (policy : Chosen) (table : Table) (prefix : PrefixView) : Type 0 where
-  pub permits : (path : List ℕ) → (chosen_permits policy path ↔ IsPermitted table prefix path)
-  pub prefers : (a b : List ℕ) → (chosen_prefers policy a b ↔ IsPreferred table prefix a b)

@@ -1,71 +1,25 @@
 //! The best of a router's choices.
 
-ghost use Rattle.std.specs.Prelude.{◌≡◌, ◌≤◌, ◌↔◌, ◌⊎◌, length, slice_index, IsTrue, ℕ, List, [], ◌∷◌, ◌++◌, IfOk, IfErr, MatchOption};
-ghost use Rattle.prefix_lanes.specs.Bits.{PrefixView};
-ghost use Rattle.ranked_policy.specs.declared.network.Link.{Link};
-ghost use Rattle.ranked_policy.specs.Plans.{Joins};
-ghost use Rattle.ranked_policy.specs.Policies.{Table, IsTable, IsTableOf, IsPermitted, IsPreferred};
-ghost use Rattle.ranked_policy.specs.Choosing.{chosen_permits, chosen_prefers};
-ghost use Rattle.stable_paths.specs.Stable.{path_of, IsFirstOrNone, IsBestOf, Speaks};
+ghost use Rattle.std.specs.Prelude.{◌≡◌, IfOk, IfErr};
+ghost use Rattle.ranked_policy.specs.Choices.{path_by};
+ghost use Rattle.ranked_policy.specs.Policies.{IsTableOf};
+ghost use Rattle.stable_paths.specs.Stable.{path_of, IsBestOf};
 
 use crate::assignment::Assignment;
 use crate::instance::Instance;
 use crate::refusal::StableError;
-use prefix_lanes::Prefix;
 use ranked_policy::laws::each_policy_is_an_order;
-use ranked_policy::{Asn, Chosen, Path, Policy, PolicyTable};
-use std::alloc::Global;
+use ranked_policy::{Asn, Path, PolicyTable};
+use std::alloc::{AllocError, Global};
 
-// Whether the router's path along `rest` is better than `best`, which is a path of the router, or the empty one.
-fn is_better(policy: &Chosen, router: Asn, rest: &[Asn], best: &[Asn]) -> bool
-    requires { 1 ≤ length best.now → slice_index best.now 0 ≡ router }
-    ensures { IsTrue result ↔ ((best.now ≡ []) ⊎ chosen_prefers policy.now (router ∷ rest.now) best.now) }
+// The path of a router along a way; the empty path if the way is empty.
+fn path_along(alloc: Global, router: Asn, way: &[Asn]) -> Result<Path, AllocError>
+    ensures { IfOk result (λ path. path ≡ path_by router way.now) }
 {
-    match best {
-        [] => true,
-        [_, on @ ..] => policy.prefers_onward(router, rest, on),
+    if way.is_empty() {
+        return Ok(Path::new(alloc));
     }
-}
-
-// Whether the router's path along `rest` is permitted, and better than the best so far. No path is made.
-fn is_taken(policy: &Chosen, router: Asn, rest: &[Asn], best: &[Asn]) -> bool
-    requires { 1 ≤ length best.now → slice_index best.now 0 ≡ router }
-    ensures { IsTrue result
-        ↔ (chosen_permits policy.now (router ∷ rest.now)
-        × ((best.now ≡ []) ⊎ chosen_prefers policy.now (router ∷ rest.now) best.now)) }
-{
-    policy.permits_onward(router, rest) && is_better(policy, router, rest, best)
-}
-
-// The path through this peer, if it is permitted and better than the best so far.
-#[inline(never)]
-fn better(
-    alloc: Global,
-    table: &PolicyTable,
-    policy: &Chosen,
-    peer: Asn,
-    assignment: &Assignment,
-    best: &Path,
-) -> Result<Option<Path>, StableError>
-    requires { 1 ≤ length best.now → slice_index best.now 0 ≡ table.now.router }
-    ensures best { (links : List Link) (link : Link) (prefix : PrefixView) → Joins link table.now.router peer
-        → Speaks policy.now table.now prefix → IsFirstOrNone links prefix (path_of assignment.now) table.now best.now
-        → IfOk result
-        (λ found. MatchOption found
-        (IsFirstOrNone (links ++ link ∷ []) prefix (path_of assignment.now) table.now best.now)
-        (IsFirstOrNone (links ++ link ∷ []) prefix (path_of assignment.now) table.now)) }
-    ensures memory { IfErr result (λ e. e ≡ StableError.Memory) }
-{
-    each_policy_is_an_order();
-    let router = table.router();
-    let path = assignment.path(peer);
-    if path.is_empty() {
-        return Ok(None);
-    }
-    if !is_taken(policy, router, path, best.as_slice()) {
-        return Ok(None);
-    }
-    Ok(Some(Path::from_router(alloc, router, path)?))
+    Path::from_router(alloc, router, way)
 }
 
 /// The best of the choices of the router of a table.
@@ -79,6 +33,7 @@ pub(crate) fn best_of(
     ensures best { IfOk result (IsBestOf instance.now (path_of assignment.now) table.now) }
     ensures memory { IfErr result (λ e. e ≡ StableError.Memory) }
 {
+    each_policy_is_an_order();
     let network = instance.network();
     let prefix = instance.prefix();
     let router = table.router();
@@ -86,11 +41,9 @@ pub(crate) fn best_of(
         return Ok(Path::from_slice(alloc, &[router])?);
     }
     let policy = table.for_prefix(prefix);
-    let mut best = Path::new(alloc);
+    let mut best: &[Asn] = &[];
     for link in network.links_of(router) {
-        if let Some(choice) = better(alloc, table, &policy, link.other, assignment, &best)? {
-            best = choice;
-        }
+        best = policy.better_onward(router, assignment.path(link.other), best);
     }
-    Ok(best)
+    Ok(path_along(alloc, router, best)?)
 }

@@ -257,7 +257,7 @@ none_without_origin none best p is unknown paths = (
           elim b.2 [
             | inl own ↦ inl (own.0, sym (ap (λ (x : Bool). cond x (b.0.router ∷ []) []) unknown))
             | inr x ↦ elim x.1 [
-              | inl first ↦ absurd (first.choice.some (empty first.choice.peer (linked_is p.net is.network b.0.router first.choice.peer first.choice.linked)))
+              | inl first ↦ absurd (first.choice.some (first.choice.heard.1 ∙ empty first.choice.peer (linked_is p.net is.network b.0.router first.choice.peer first.choice.heard.0)))
               | inr nothing_else ↦ inr (x.0, inr (refl, nothing_else.1))
             ]
           ],

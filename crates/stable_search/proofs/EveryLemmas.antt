@@ -23,11 +23,9 @@ use Rattle.stable_search.specs.Groups.{at_places, IsPickOf, IsGroup, AreGroups, 
 use Rattle.stable_search.proofs.FitLemmas.{not_nil}
 use Rattle.stable_search.proofs.PlaceLemmas.{stands, here}
 use Rattle.stable_search.proofs.RelateLemmas.{same_seat}
+use Rattle.ranked_policy.proofs.Reached.{linked_back}
 
 -- ---- lists
-
-linked_back : (links : List Link) (u v : ℕ) → Linked links u v → Linked links v u
-linked_back links u v l = (l.0, l.1, l.2, l.3, elim l.4 [ inl a ↦ inr (a.0, a.1) | inr a ↦ inl (a.0, a.1) ])
 
 -- ---- one end of a link
 

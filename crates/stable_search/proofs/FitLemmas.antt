@@ -3,7 +3,8 @@ use Rattle.std.proofs.Common.{◌≡◌, ◌≢◌, ℕ, true, List, [], ◌∷�
 use Rattle.prefix_lanes.specs.Bits.{PrefixView}
 use Rattle.ranked_policy.specs.Plans.{IsRouter, Linked}
 use Rattle.ranked_policy.specs.Policies.{Table, Originates, IsPermitted, IsPreferred}
-use Rattle.stable_paths.specs.Stable.{Problem, IsStable, IsChoice, IsFirst, IsBestOf}
+use Rattle.ranked_policy.specs.Choices.{HasPathOver, IsChoice, IsFirst}
+use Rattle.stable_paths.specs.Stable.{Problem, IsStable, IsBestOf}
 use Rattle.stable_paths.proofs.TableLemmas.{linked_is, own_is}
 use Rattle.stable_search.specs.Fits.{GoesOver, FitsAt, FitsPeers, StableIsFitting}
 
@@ -30,7 +31,7 @@ begins_at p paths is_true stable v router =
     elim b.2 [
       | inl own ↦ inr ([], own.1 ∙ sym (own_is p b.0.router is_true) ∙ ap (λ (n : ℕ). n ∷ []) b.1.0)
       | inr x ↦ elim x.1 [
-        | inl first ↦ inr (paths first.choice.peer, first.choice.goes_on ∙ ap (λ (n : ℕ). n ∷ paths first.choice.peer) b.1.0)
+        | inl first ↦ inr (first.choice.rest, first.choice.goes_on ∙ ap (λ (n : ℕ). n ∷ first.choice.rest) b.1.0)
         | inr none ↦ inl none.0
       ]
     ]
@@ -39,44 +40,55 @@ module _ (p : Problem) (paths : ℕ → List ℕ) (table : Table) where
   abbrev mine : List ℕ
   mine = paths table.router
 
+  -- a choice over the links
+  abbrev Choice : List ℕ → Type 0
+  Choice = IsChoice (HasPathOver p.net.links paths table.router) table p.prefix
+
+  abbrev First : Type 0
+  First = IsFirst (HasPathOver p.net.links paths table.router) table p.prefix mine
+
+  along : (path : List ℕ) → (c : Choice path) → path ≡ table.router ∷ paths c.peer
+  along path c = c.goes_on ∙ ap (λ (r : List ℕ). table.router ∷ r) c.heard.1
+
   -- the path over a peer is a choice
   choice_over : (v : ℕ) → (Originates table p.prefix table.router → ⊥) → Linked p.net.links table.router v → IsPermitted table p.prefix (table.router ∷ paths v)
-      → IsChoice p.net.links p.prefix paths table (table.router ∷ paths v)
-  choice_over v other linked may = record { peer = v; linked = linked; some = no_path_alone table p.prefix (paths v) other may; goes_on = refl; permitted = may }
+      → Choice (table.router ∷ paths v)
+  choice_over v other linked may = record { peer = v; rest = paths v; heard = (linked, refl); some = no_path_alone table p.prefix (paths v) other may; goes_on = refl; permitted = may }
 
   fits_first : (v : ℕ) → (Originates table p.prefix table.router → ⊥) → Linked p.net.links table.router v
       → ((w : ℕ) → Linked p.net.links table.router w → (paths w ≡ []) ⊎ ((rest : List ℕ) × (paths w ≡ w ∷ rest)))
-      → IsFirst p.net.links p.prefix paths table mine → FitsAt table p.prefix v mine (paths v)
+      → First → FitsAt table p.prefix v mine (paths v)
   fits_first v other linked begins first = record {
-    over = λ rest e. elim (begins first.choice.peer first.choice.linked) [
-      | inl none ↦ absurd (first.choice.some none)
+    over = λ rest e. elim (begins first.choice.peer first.choice.heard.0) [
+      | inl none ↦ absurd (first.choice.some (first.choice.heard.1 ∙ none))
       | inr on ↦
-          let same : table.router ∷ v ∷ rest ≡ table.router ∷ first.choice.peer ∷ on.0 = sym e ∙ first.choice.goes_on ∙ ap (λ (r : List ℕ). table.router ∷ r) on.1 in
+          let goes = along mine first.choice in
+          let same : table.router ∷ v ∷ rest ≡ table.router ∷ first.choice.peer ∷ on.0 = sym e ∙ goes ∙ ap (λ (r : List ℕ). table.router ∷ r) on.1 in
           let peer : first.choice.peer ≡ v = cc in
-          first.choice.goes_on ∙ ap (λ (w : ℕ). table.router ∷ paths w) peer
+          goes ∙ ap (λ (w : ℕ). table.router ∷ paths w) peer
     ];
     best = λ may apart. (
-      (λ none. not_nil table.router (paths first.choice.peer) (sym first.choice.goes_on ∙ none)),
+      (λ none. not_nil table.router first.choice.rest (sym first.choice.goes_on ∙ none)),
       first.before (table.router ∷ paths v) (choice_over v other linked may) apart,
     );
   }
 
   fits_none : (v : ℕ) → (Originates table p.prefix table.router → ⊥) → Linked p.net.links table.router v → mine ≡ []
-      → ((path : List ℕ) → IsChoice p.net.links p.prefix paths table path → ⊥) → FitsAt table p.prefix v mine (paths v)
+      → ((path : List ℕ) → Choice path → ⊥) → FitsAt table p.prefix v mine (paths v)
   fits_none v other linked empty none = record {
     over = λ rest e. absurd (not_nil table.router (v ∷ rest) (sym e ∙ empty));
     best = λ may apart. absurd (none (table.router ∷ paths v) (choice_over v other linked may));
   }
 
   goes_over : ((w : ℕ) → Linked p.net.links table.router w → (paths w ≡ []) ⊎ ((rest : List ℕ) × (paths w ≡ w ∷ rest)))
-      → IsFirst p.net.links p.prefix paths table mine → GoesOver p.net.links table.router mine
-  goes_over begins first = elim (begins first.choice.peer first.choice.linked) [
-    | inl none ↦ absurd (first.choice.some none)
+      → First → GoesOver p.net.links table.router mine
+  goes_over begins first = elim (begins first.choice.peer first.choice.heard.0) [
+    | inl none ↦ absurd (first.choice.some (first.choice.heard.1 ∙ none))
     | inr on ↦ record {
       peer = first.choice.peer;
       rest = on.0;
-      linked = first.choice.linked;
-      whole = first.choice.goes_on ∙ ap (λ (r : List ℕ). table.router ∷ r) on.1;
+      linked = first.choice.heard.0;
+      whole = along mine first.choice ∙ ap (λ (r : List ℕ). table.router ∷ r) on.1;
     }
   ]
 
@@ -108,8 +120,8 @@ module _ (p : Problem) (paths : ℕ → List ℕ) (table : Table) where
         | inl empty ↦ inr (
           empty,
           λ path c.
-              (let may : IsPermitted table p.prefix (table.router ∷ paths c.peer) = subst (IsPermitted table p.prefix) c.goes_on c.permitted in
-              ((all.fits c.peer c.linked x.0).best may (λ e. not_nil table.router (paths c.peer) (sym e ∙ empty))).0 empty),
+              (let may : IsPermitted table p.prefix (table.router ∷ paths c.peer) = subst (IsPermitted table p.prefix) (along path c) c.permitted in
+              ((all.fits c.peer c.heard.0 x.0).best may (λ e. not_nil table.router (paths c.peer) (sym e ∙ empty))).0 empty),
         )
         | inr y ↦
             let on : GoesOver p.net.links table.router mine = y.1 in
@@ -117,15 +129,16 @@ module _ (p : Problem) (paths : ℕ → List ℕ) (table : Table) where
             inl (record {
               choice = record {
                 peer = on.peer;
-                linked = on.linked;
+                rest = paths on.peer;
+                heard = (on.linked, refl);
                 some = no_path_alone table p.prefix (paths on.peer) x.0 (subst (IsPermitted table p.prefix) goes y.0);
                 goes_on = goes;
                 permitted = y.0;
               };
               before = λ path c apart.
-                  (let may : IsPermitted table p.prefix (table.router ∷ paths c.peer) = subst (IsPermitted table p.prefix) c.goes_on c.permitted in
-                  let better = (all.fits c.peer c.linked x.0).best may (λ e. apart (e ∙ sym c.goes_on)) in
-                  subst (IsPreferred table p.prefix mine) (sym c.goes_on) better.1);
+                  (let may : IsPermitted table p.prefix (table.router ∷ paths c.peer) = subst (IsPermitted table p.prefix) (along path c) c.permitted in
+                  let better = (all.fits c.peer c.heard.0 x.0).best may (λ e. apart (e ∙ sym (along path c))) in
+                  subst (IsPreferred table p.prefix mine) (sym (along path c)) better.1);
             })
       ],
     )

@@ -12,7 +12,8 @@ use Rattle.ranked_policy.specs.Paths.{BeginsWith}
 use Rattle.ranked_policy.specs.Plans.{Plan, IsRouter, Linked, numbers}
 use Rattle.ranked_policy.specs.Policies.{Table, IsTableOf, Originates, IsPermitted, IsPreferred}
 use Rattle.ranked_policy.specs.Promises.{EachPolicyIsAnOrder}
-use Rattle.stable_paths.specs.Stable.{Problem, IsInstance, IsStable, IsBest, IsBestOf, IsChoice, IsFirstOrNone}
+use Rattle.ranked_policy.specs.Choices.{HasPathOver, IsChoice, IsFirstOrNone}
+use Rattle.stable_paths.specs.Stable.{Problem, IsInstance, IsStable, IsBest, IsBestOf}
 use Rattle.ranked_policy.proofs.OneTable.{one_table}
 use Rattle.stable_paths.proofs.TableLemmas.{linked_is, own_is, one_best}
 use Rattle.stable_search.specs.declared.chooser.Chooser.{Chooser}
@@ -73,14 +74,14 @@ module _ (law : EachPolicyIsAnOrder) (p : Problem) (is : IsInstance p) (it : Cho
         )
       ]
     where
-      over : (paths : ℕ → List ℕ) → IsStable p paths → IsChoice p.net.links p.prefix paths x.table (paths it.router) → GoesOver p.net.links it.router (paths it.router)
-      over paths stable c = elim (begins_at p paths is.originated stable c.peer (linked_is p.net is.problem.network x.table.router c.peer c.linked)) [
-        | inl none ↦ absurd (c.some none)
+      over : (paths : ℕ → List ℕ) → IsStable p paths → IsChoice (HasPathOver p.net.links paths x.table.router) x.table p.prefix (paths it.router) → GoesOver p.net.links it.router (paths it.router)
+      over paths stable c = elim (begins_at p paths is.originated stable c.peer (linked_is p.net is.problem.network x.table.router c.peer c.heard.0)) [
+        | inl none ↦ absurd (c.some (c.heard.1 ∙ none))
         | inr on ↦ record {
           peer = c.peer;
           rest = on.0;
-          linked = subst (λ (n : ℕ). Linked p.net.links n c.peer) x.of.0 c.linked;
-          whole = c.goes_on ∙ ap (λ (n : ℕ). n ∷ paths c.peer) x.of.0 ∙ ap (λ (q : List ℕ). it.router ∷ q) on.1;
+          linked = subst (λ (n : ℕ). Linked p.net.links n c.peer) x.of.0 c.heard.0;
+          whole = c.goes_on ∙ ap (λ (n : ℕ). n ∷ c.rest) x.of.0 ∙ ap (λ (q : List ℕ). it.router ∷ q) (c.heard.1 ∙ on.1);
         }
       ]
 
@@ -96,9 +97,9 @@ module _ (law : EachPolicyIsAnOrder) (p : Problem) (is : IsInstance p) (it : Cho
           | inr none ↦ inl none.0
           | inl first ↦ inr (
             first.choice.peer,
-            subst (λ (n : ℕ). Linked p.net.links n first.choice.peer) x.of.0 first.choice.linked,
-            first.choice.goes_on ∙ ap (λ (n : ℕ). n ∷ paths first.choice.peer) x.of.0,
-            first.choice.some,
+            subst (λ (n : ℕ). Linked p.net.links n first.choice.peer) x.of.0 first.choice.heard.0,
+            first.choice.goes_on ∙ ap (λ (n : ℕ). n ∷ first.choice.rest) x.of.0 ∙ ap (λ (q : List ℕ). it.router ∷ q) first.choice.heard.1,
+            (λ none. first.choice.some (first.choice.heard.1 ∙ none)),
           )
         ]
       ]
@@ -117,22 +118,26 @@ module _ (law : EachPolicyIsAnOrder) (p : Problem) (is : IsInstance p) (it : Cho
       same : it.router ≡ r
       same = sym x.of.0
 
-      better : (other : List ℕ) → IsChoice p.net.links p.prefix paths x.table other → path ≢ other → (path ≢ []) × IsPreferred x.table p.prefix path other
+      Hears : ℕ → List ℕ → Type 0
+      Hears = HasPathOver p.net.links paths x.table.router
+
+      better : (other : List ℕ) → IsChoice Hears x.table p.prefix other → path ≢ other → (path ≢ []) × IsPreferred x.table p.prefix path other
       better other c apart =
-          let goes : other ≡ it.router ∷ paths c.peer = c.goes_on ∙ ap (λ (n : ℕ). n ∷ paths c.peer) x.of.0 in
-          let b = best c.peer (subst (λ (n : ℕ). Linked p.net.links n c.peer) x.of.0 c.linked) (subst (chosen_permits it.policy) goes (permits_by other c.permitted)) (λ e. apart (e ∙ sym goes)) in
+          let goes : other ≡ it.router ∷ paths c.peer = c.goes_on ∙ ap (λ (n : ℕ). n ∷ c.rest) x.of.0 ∙ ap (λ (q : List ℕ). it.router ∷ q) c.heard.1 in
+          let b = best c.peer (subst (λ (n : ℕ). Linked p.net.links n c.peer) x.of.0 c.heard.0) (subst (chosen_permits it.policy) goes (permits_by other c.permitted)) (λ e. apart (e ∙ sym goes)) in
           ((λ none. not_nil it.router b.0.0 (sym b.0.1 ∙ none)), (x.speaks.prefers path other).0 (subst (chosen_prefers it.policy path) (sym goes) b.1))
 
-      first : IsFirstOrNone p.net.links p.prefix paths x.table path
+      first : IsFirstOrNone Hears x.table p.prefix path
       first = elim offered [
-        | inl none ↦ inr (none, λ other c. (better other c (λ e. not_nil x.table.router (paths c.peer) (sym c.goes_on ∙ sym e ∙ none))).0 none)
+        | inl none ↦ inr (none, λ other c. (better other c (λ e. not_nil x.table.router c.rest (sym c.goes_on ∙ sym e ∙ none))).0 none)
         | inr o ↦
             let goes : path ≡ r ∷ paths o.0 = o.2 ∙ ap (λ (n : ℕ). n ∷ paths o.0) same in
             let may : IsPermitted x.table p.prefix path = by_permits path o.3 in
             inl (record {
               choice = record {
                 peer = o.0;
-                linked = subst (λ (n : ℕ). Linked p.net.links n o.0) same o.1;
+                rest = paths o.0;
+                heard = (subst (λ (n : ℕ). Linked p.net.links n o.0) same o.1, refl);
                 some = no_path_alone x.table p.prefix (paths o.0) (not_here not) (subst (IsPermitted x.table p.prefix) goes may);
                 goes_on = goes;
                 permitted = may;

@@ -13,7 +13,8 @@ use Rattle.ranked_policy.specs.Paths.{BeginsWith}
 use Rattle.ranked_policy.specs.Plans.{IsRouter, Linked, numbers}
 use Rattle.ranked_policy.specs.Policies.{Table, IsTableOf, Originates, IsPermitted, IsPreferred}
 use Rattle.ranked_policy.specs.Promises.{EachPolicyIsAnOrder, OneRule}
-use Rattle.stable_paths.specs.Stable.{Problem, IsInstance, IsStable, IsBestOf, IsChoice, IsFirst, Speaks}
+use Rattle.ranked_policy.specs.Choices.{HasPathOver, IsChoice, IsFirst, Speaks}
+use Rattle.stable_paths.specs.Stable.{Problem, IsInstance, IsStable, IsBestOf}
 use Rattle.ranked_policy.proofs.OneTable.{one_table, table_stands}
 use Rattle.stable_paths.proofs.TableLemmas.{linked_is}
 use Rattle.stable_search.specs.declared.chooser.Chooser.{Chooser}
@@ -214,7 +215,7 @@ module _ (law : EachPolicyIsAnOrder) (p : Problem) (is : IsInstance p) where
       ]
 
       -- what it has in a stable assignment is preferred to each other choice
-      first_of_all : (paths : ℕ → List ℕ) → IsStable p paths → 0 < length (paths it.router) → IsFirst p.net.links p.prefix paths x.table (paths it.router)
+      first_of_all : (paths : ℕ → List ℕ) → IsStable p paths → 0 < length (paths it.router) → IsFirst (HasPathOver p.net.links paths x.table.router) x.table p.prefix (paths it.router)
       first_of_all paths stable long =
           let b = stable it.router (router_of p.net it.router x.table x.of) in
           let best : IsBestOf p paths x.table (paths it.router) = subst (λ (t : Table). IsBestOf p paths t (paths it.router)) (one_table p.net it.router b.0 x.table is.problem.network b.1 x.of) b.2 in
@@ -244,11 +245,12 @@ module _ (law : EachPolicyIsAnOrder) (p : Problem) (is : IsInstance p) where
               let path_may : IsPermitted x.table p.prefix path = (x.speaks.permits path).0 certain.may in
               let mine_may : IsPermitted x.table p.prefix mine = (x.speaks.permits mine).0 (permitted paths stable long) in
               let better : IsPreferred x.table p.prefix path mine = (x.speaks.prefers path mine).0 prefers in
-              let choice : IsChoice p.net.links p.prefix paths x.table path = record {
+              let choice : IsChoice (HasPathOver p.net.links paths x.table.router) x.table p.prefix path = record {
                 peer = certain.peer.router;
-                linked = subst (λ (n : ℕ). Linked p.net.links n certain.peer.router) (sym x.of.0) certain.linked;
-                some = λ none. (let e = ap length (sym theirs ∙ none) in omega (arith, e, some));
-                goes_on = ap (λ (n : ℕ). n ∷ bound) (sym x.of.0) ∙ ap (λ (q : List ℕ). x.table.router ∷ q) (sym theirs);
+                rest = bound;
+                heard = (subst (λ (n : ℕ). Linked p.net.links n certain.peer.router) (sym x.of.0) certain.linked, sym theirs);
+                some = λ none. (let e = ap length none in omega (arith, e, some));
+                goes_on = ap (λ (n : ℕ). n ∷ bound) (sym x.of.0);
                 permitted = path_may;
               } in
               let worse : IsPreferred x.table p.prefix mine path =

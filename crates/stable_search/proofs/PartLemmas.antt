@@ -4,7 +4,7 @@ use Rattle.std.specs.Prelude.{◌↔◌, Result, Ok, Err, IfOk, IfErr, IsErrAnd}
 use Rattle.std.specs.List.{All, AllPairs, Any, Contains}
 use Rattle.std.specs.Int.{bit_at}
 use lib.Bits.{bit_and}
-use Rattle.std.proofs.lemmas.Bool.{cases_order, cases_lt, eqb-true}
+use Rattle.std.proofs.lemmas.Bool.{cases_order, cases_lt, eqb-true, cases_eq}
 use Rattle.std.proofs.lemmas.List.{take_more, length-map, length-append, get_or_append_left, get_or-map, get_or-take, get_or_default, get_or_past, length-take-le, same_lists}
 use Rattle.std.proofs.lemmas.List.Elements.{All-push, Contains-append_left, Contains-push, Contains-push_cases, Contains-get_or}
 use Rattle.std.proofs.lemmas.List.Quantifiers.{all_pairs_push, Any-push}
@@ -62,12 +62,6 @@ labels_start sets labels size own = record {
 
 module _ (sets : List ℕ) (way : Way) (old new : List ℕ) (one other : ℕ) (up : one ≤ other) (size : length new ≡ length old)
     (is : (i : ℕ) → i < length old → get_or new i 0 ≡ cond (get_or old i 0 == other) one (get_or old i 0)) where
-  is_or : (a b : ℕ) → (a ≡ b) ⊎ (a ≢ b)
-  is_or a b = elim (cases_order a b) [
-    | inl e ↦ inl e
-    | inr differ ↦ inr (λ e. elim differ [ inl l ↦ omega (arith, l, e) | inr m ↦ omega (arith, m, e) ])
-  ]
-
   at_other : (i : ℕ) → i < length old → get_or old i 0 ≡ other → get_or new i 0 ≡ one
   at_other i lt e = is i lt ∙ ap (λ (b : Bool). cond b one (get_or old i 0)) (eq-eqb (get_or old i 0) other e)
 
@@ -75,17 +69,17 @@ module _ (sets : List ℕ) (way : Way) (old new : List ℕ) (one other : ℕ) (u
   at_rest i lt not = is i lt ∙ ap (λ (b : Bool). cond b one (get_or old i 0)) (ne_eqb (get_or old i 0) other not)
 
   at_one : (i : ℕ) → i < length old → get_or old i 0 ≡ one → get_or new i 0 ≡ one
-  at_one i lt e = elim (is_or (get_or old i 0) other) [ inl here ↦ at_other i lt here | inr not ↦ at_rest i lt not ∙ e ]
+  at_one i lt e = elim (cases_eq (get_or old i 0) other) [ inl here ↦ at_other i lt here | inr not ↦ at_rest i lt not ∙ e ]
 
   module _ (a b : ℕ) (alt : a < length old) (blt : b < length old) (a_is : get_or old a 0 ≡ one) (b_is : get_or old b 0 ≡ other) where
     merged_kept : (i j : ℕ) → i < length old → j < length old → get_or old i 0 ≡ get_or old j 0 → get_or new i 0 ≡ get_or new j 0
-    merged_kept i j ilt jlt e = elim (is_or (get_or old i 0) other) [
+    merged_kept i j ilt jlt e = elim (cases_eq (get_or old i 0) other) [
       | inl here ↦ at_other i ilt here ∙ sym (at_other j jlt (sym e ∙ here))
       | inr not ↦ at_rest i ilt not ∙ e ∙ sym (at_rest j jlt (λ same. not (e ∙ same)))
     ]
 
     merged_low : (n : ℕ) → ((i : ℕ) → i < length old → get_or old i 0 < n) → (i : ℕ) → i < length old → get_or new i 0 < n
-    merged_low n all i lt = elim (is_or (get_or old i 0) other) [
+    merged_low n all i lt = elim (cases_eq (get_or old i 0) other) [
       | inl here ↦ (let e = at_other i lt here in let low = all a alt in omega (arith, e, low, a_is))
       | inr not ↦ (let e = at_rest i lt not in let low = all i lt in omega (arith, e, low))
     ]
@@ -93,7 +87,7 @@ module _ (sets : List ℕ) (way : Way) (old new : List ℕ) (one other : ℕ) (u
     merged_least : AreLeast old → AreLeast new
     merged_least least i nlt =
         let lt : i < length old = omega (arith, nlt, size) in
-        elim (is_or (get_or old i 0) other) [
+        elim (cases_eq (get_or old i 0) other) [
           | inl here ↦
               let e = at_other i lt here in
               let mine = least i lt in

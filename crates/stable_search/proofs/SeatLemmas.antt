@@ -85,9 +85,6 @@ pushed values new path e other = (
   ]),
 )
 
-pub there : (values : List (List ℕ)) (path : List ℕ) → Contains values path → (other : List ℕ) → (Contains values other ↔ Contains values other ⊎ (path ≡ other))
-there values path c other = (λ x. inl x, λ x. elim x [ inl before ↦ before | inr same ↦ subst (Contains values) same c ])
-
 -- ---- a seat
 
 pub one_path : (path other : List ℕ) → (Contains (path ∷ []) other ↔ (other ≡ path))

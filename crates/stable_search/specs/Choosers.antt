@@ -4,7 +4,8 @@ use mathlib.Core.Logic.{◌⊎◌}
 use Rattle.ranked_policy.specs.declared.network.Link.{Link}
 use Rattle.ranked_policy.specs.Choosing.{chosen_permits}
 use Rattle.ranked_policy.specs.Policies.{Table, IsTableOf, Originates}
-use Rattle.stable_paths.specs.Stable.{Problem, Speaks}
+use Rattle.ranked_policy.specs.Choices.{Speaks}
+use Rattle.stable_paths.specs.Stable.{Problem}
 use Rattle.stable_search.specs.Fits.{GoesOver}
 use Rattle.stable_search.specs.declared.chooser.Chooser.{Chooser}
 

@@ -7,7 +7,8 @@ use Rattle.ranked_policy.specs.declared.policy.Chosen.{Chosen}
 use Rattle.ranked_policy.specs.Choosing.{chosen_permits, chosen_prefers}
 use Rattle.ranked_policy.specs.Plans.{Linked, numbers}
 use Rattle.ranked_policy.specs.Policies.{Table, IsTableOf, Originates}
-use Rattle.stable_paths.specs.Stable.{Problem, IsStable, Speaks}
+use Rattle.ranked_policy.specs.Choices.{Speaks}
+use Rattle.stable_paths.specs.Stable.{Problem, IsStable}
 use Rattle.stable_search.specs.Fits.{GoesOver, MayStand}
 use Rattle.stable_search.specs.Seats.{StandsAt}
 use Rattle.stable_search.specs.declared.seat.Seat.{Seat}

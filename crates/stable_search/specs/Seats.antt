@@ -8,7 +8,8 @@ use Rattle.ranked_policy.specs.Choosing.{chosen_permits, chosen_prefers}
 use Rattle.ranked_policy.specs.Paths.{BeginsWith}
 use Rattle.ranked_policy.specs.Plans.{Linked}
 use Rattle.ranked_policy.specs.Policies.{Table, IsTableOf, Originates}
-use Rattle.stable_paths.specs.Stable.{Problem, IsStable, Speaks}
+use Rattle.ranked_policy.specs.Choices.{Speaks}
+use Rattle.stable_paths.specs.Stable.{Problem, IsStable}
 use Rattle.stable_search.specs.Choosers.{MayChoose}
 use Rattle.stable_search.specs.Fits.{MayStand}
 use Rattle.stable_search.specs.Picks.{Has}

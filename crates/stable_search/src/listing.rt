@@ -28,14 +28,6 @@ fn only_path<'s>(seat: &'s Seat) -> &'s [Asn]
     }
 }
 
-// Whether a router permits its path along `theirs`, and prefers it to its path along the bound, if there is one.
-fn is_better(it: &Seat, theirs: &[Asn], bound: &[Asn]) -> bool
-    ensures { IsTrue result → chosen_permits it.now.policy (it.now.router ∷ theirs.now) }
-{
-    it.policy.permits_onward(it.router, theirs)
-        && (bound.is_empty() || it.policy.prefers_onward(it.router, theirs, bound))
-}
-
 // The best path for a router to go on along, of those that a peer has in every stable assignment; the empty path if
 // there is none.
 fn bound_of<'s>(network: &Network, seats: &'s [Seat], it: &Seat) -> &'s [Asn]
@@ -44,7 +36,9 @@ fn bound_of<'s>(network: &Network, seats: &'s [Seat], it: &Seat) -> &'s [Asn]
     let mut bound: &[Asn] = &[];
     for peer in seats {
         let theirs = only_path(peer);
-        if network.linked(it.router, peer.router) && is_better(it, theirs, bound) {
+        if network.linked(it.router, peer.router)
+            && it.policy.takes_onward(it.router, theirs, bound)
+        {
             bound = theirs;
         }
     }

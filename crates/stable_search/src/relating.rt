@@ -11,25 +11,8 @@ ghost use Rattle.stable_search.specs.declared.seat.Seat.{Seat};
 
 use crate::seat::Seat;
 use crate::way::{Way, has};
-use ranked_policy::{Asn, Chosen, Network, Path};
+use ranked_policy::{Asn, Chosen, Network, Path, is_onward};
 use std::alloc::{AllocError, Global};
-
-// Whether both have the same numbers in the same order.
-fn are_same(one: &[Asn], other: &[Asn]) -> bool
-    ensures { IsTrue result ↔ (one.now ≡ other.now) }
-{
-    one == other
-}
-
-// Whether a path is the router and then the rest.
-fn is_onward(path: &[Asn], router: Asn, rest: &[Asn]) -> bool
-    ensures { IsTrue result ↔ (path.now ≡ router ∷ rest.now) }
-{
-    match path {
-        [first, others @ ..] => *first == router && are_same(others, rest),
-        [] => false,
-    }
-}
 
 /// Whether a path goes on from the router over the peer.
 pub(crate) fn is_over(path: &[Asn], router: Asn, peer: Asn) -> bool

@@ -14,7 +14,7 @@ ghost use Rattle.stable_search.specs.Seats.{AreValuesOf};
 use crate::chooser::Chooser;
 use crate::refusal::SearchError;
 use ranked_policy::laws::{each_policy_is_an_order, the_longest_rule_is_one};
-use ranked_policy::{Asn, Chosen, MOST_PATHS, NetItems, Network, Path, Policy};
+use ranked_policy::{Asn, Chosen, MOST_PATHS, NetItems, Network, Path, Policy, is_listed};
 use stable_paths::Instance;
 use std::alloc::{AllocError, Global};
 
@@ -34,7 +34,7 @@ pub(crate) struct Seat<'a> {
     pub(crate) values: Vec<Path>,
 }
 
-// Whether a path goes on from a router over a peer of it.
+// Whether a path goes on from a router over one of its peers.
 fn goes_over(network: &Network, router: Asn, path: &Path) -> bool
     ensures { IsTrue result ↔ GoesOver network.now.links router path.now }
 {
@@ -44,25 +44,6 @@ fn goes_over(network: &Network, router: Asn, path: &Path) -> bool
     }
 }
 
-// Whether two paths are the same.
-fn are_same(one: &Path, other: &Path) -> bool
-    ensures { IsTrue result ↔ (one.now ≡ other.now) }
-{
-    one.as_slice() == other.as_slice()
-}
-
-// Whether a path is one of these.
-fn has_path(paths: &[Path], path: &Path) -> bool
-    ensures { IsTrue result ↔ Contains paths.now path.now }
-{
-    for listed in paths {
-        if are_same(listed, path) {
-            return true;
-        }
-    }
-    false
-}
-
 /// Adds a path, unless it is there already.
 pub(crate) fn add_once(alloc: Global, values: &mut Vec<Path>, path: &Path) -> Result<(), AllocError>
     ensures exact { OnOk result ((other : List ℕ) → (Contains values.new.items other
@@ -70,13 +51,13 @@ pub(crate) fn add_once(alloc: Global, values: &mut Vec<Path>, path: &Path) -> Re
     ensures distinct { OnOk result (AllPairs (λ one later. one ≢ later) values.old.items
         → AllPairs (λ one later. one ≢ later) values.new.items) }
 {
-    if !has_path(values.as_slice(), path) {
+    if !is_listed(values.as_slice(), path) {
         values.push(Path::from_slice(alloc, path.as_slice())?)?;
     }
     Ok(())
 }
 
-// Whether a path is permitted and goes on from the router over a peer of it.
+// Whether a path is permitted and goes on from the router over one of its peers.
 fn may_stand(network: &Network, policy: &Chosen, router: Asn, path: &Path) -> bool
     ensures { IsTrue result ↔ (chosen_permits policy.now path.now × GoesOver network.now.links router path.now) }
 {

@@ -55,8 +55,6 @@ enum Of {
     Originates,
     /// The router originates it no longer.
     Withdraws,
-    /// The router keeps a path for it.
-    Keeps(&'static [Asn]),
     /// The router tells a peer the kept path.
     Tells(Asn),
     /// A peer says a path, by the place of the peer.
@@ -90,16 +88,10 @@ enum Row {
     At(At, Of),
     /// A peer announces prefixes along a path, and withdraws others.
     Hears(Asn, Along, &'static [At], &'static [At]),
-    /// The same, by the place of the peer.
-    HearsAt(Asn, Along, &'static [At], &'static [At]),
     /// The session with a peer is Established.
     ComesUp(Asn),
-    /// The same, by the place of the peer.
-    ComesUpAt(Asn),
     /// The session with a peer is left.
     Forgets(Asn),
-    /// The same, by the place of the peer.
-    ForgetsAt(Asn),
     /// The router decides once: this prefix, or none.
     Decides(Option<At>),
     /// The router starts again.
@@ -293,13 +285,6 @@ fn hear(rib: &mut Rib, peer: Asn, update: &Update) -> bool {
     rib.hear(peer, update).is_ok()
 }
 
-fn hear_at(rib: &mut Rib, peer: Asn, update: &Update) -> bool {
-    match peer_place(rib, peer) {
-        Some(place) => rib.hear_at(place, peer, update).is_ok(),
-        None => false,
-    }
-}
-
 fn hear_path_at(rib: &mut Rib, peer: Asn, prefix: &Prefix, path: &[Asn]) -> bool {
     match peer_place(rib, peer) {
         Some(place) => rib.hear_path_at(place, peer, prefix, path).is_ok(),
@@ -314,13 +299,6 @@ fn says(rib: &mut Rib, peer: Asn, update: Result<Update, AllocError>) -> bool {
     }
 }
 
-fn says_at(rib: &mut Rib, peer: Asn, update: Result<Update, AllocError>) -> bool {
-    match update {
-        Ok(update) => hear_at(rib, peer, &update),
-        Err(_) => false,
-    }
-}
-
 fn comes_up(rib: &mut Rib, peer: Asn) -> bool {
     if !rib.network().linked(rib.router(), peer) {
         return false;
@@ -329,27 +307,11 @@ fn comes_up(rib: &mut Rib, peer: Asn) -> bool {
     true
 }
 
-fn comes_up_at(rib: &mut Rib, peer: Asn) -> bool {
-    match peer_place(rib, peer) {
-        Some(place) => rib.come_up_at(place, peer),
-        None => return false,
-    }
-    true
-}
-
 fn forgets(rib: &mut Rib, peer: Asn) -> bool {
     if !rib.network().linked(rib.router(), peer) {
         return false;
     }
     rib.forget(peer);
-    true
-}
-
-fn forgets_at(rib: &mut Rib, peer: Asn) -> bool {
-    match peer_place(rib, peer) {
-        Some(place) => rib.forget_at(place, peer),
-        None => return false,
-    }
     true
 }
 
@@ -367,21 +329,6 @@ fn withdraws(rib: &mut Rib, prefix: &Prefix) -> bool {
     }
     rib.withdraw(prefix);
     true
-}
-
-fn keep(rib: &mut Rib, prefix: &Prefix, path: Path) -> bool {
-    if !rib.network().names(prefix) {
-        return false;
-    }
-    rib.set(prefix, path);
-    true
-}
-
-fn keeps(alloc: Global, rib: &mut Rib, prefix: &Prefix, path: &[Asn]) -> bool {
-    match Path::from_slice(alloc, path) {
-        Ok(path) => keep(rib, prefix, path),
-        Err(_) => false,
-    }
 }
 
 fn tells(rib: &mut Rib, peer: Asn, prefix: &Prefix) -> bool {
@@ -551,7 +498,6 @@ fn is_of(alloc: Global, rib: &mut Rib, prefix: &Prefix, of: Of) -> bool {
     match of {
         Of::Originates => originates(rib, prefix),
         Of::Withdraws => withdraws(rib, prefix),
-        Of::Keeps(path) => keeps(alloc, rib, prefix, path),
         Of::Tells(peer) => tells(rib, peer, prefix),
         Of::SaysAt(peer, path) => hear_path_at(rib, peer, prefix, path),
         Of::Heard(peer, path) => hears_path(rib, peer, prefix, path),
@@ -581,13 +527,8 @@ fn is_so(alloc: Global, rib: &mut Rib, row: Row) -> bool {
         Row::Hears(peer, along, nlri, withdrawn) => {
             says(rib, peer, updates(alloc, along, nlri, withdrawn))
         }
-        Row::HearsAt(peer, along, nlri, withdrawn) => {
-            says_at(rib, peer, updates(alloc, along, nlri, withdrawn))
-        }
         Row::ComesUp(peer) => comes_up(rib, peer),
-        Row::ComesUpAt(peer) => comes_up_at(rib, peer),
         Row::Forgets(peer) => forgets(rib, peer),
-        Row::ForgetsAt(peer) => forgets_at(rib, peer),
         Row::Decides(wanted) => decides_at(alloc, rib, wanted),
         Row::Clears => clears(rib),
         Row::Dirty(wanted) => is_at(dirty(rib), wanted),
@@ -626,24 +567,24 @@ fn tries(rt: &impl Abort, alloc: Global, router: Asn, rows: &[Row]) -> Result<()
 
 // The calls by place: those of the peers 2 and 3 of router 4 are 0 and 1, those of the prefixes 0 to 2.
 static BY_PLACE: [Row; 19] = [
-    Row::ComesUpAt(3),
-    Row::ComesUpAt(2),
-    Row::HearsAt(2, Along::Path(&[2, 1]), &[SHORT], &[]),
-    Row::At(SHORT, Of::Heard(2, &[2, 1])),
-    Row::At(LONG, Of::SaysAt(3, &TEN_LONG)),
-    Row::At(LONG, Of::Heard(3, &TEN_LONG)),
+    Row::ComesUp(3),
+    Row::ComesUp(2),
+    Row::At(SHORT, Of::SaysAt(3, &TEN_LONG)),
+    Row::At(SHORT, Of::Heard(3, &TEN_LONG)),
+    Row::At(LONG, Of::SaysAt(2, &[2, 1])),
+    Row::At(LONG, Of::Heard(2, &[2, 1])),
     Row::At(STRAY, Of::SaysAt(3, &[3, 1])),
-    Row::At(LONG, Of::Keeps(&TEN_LONG)),
-    Row::At(LONG, Of::KeptAt(&TEN_LONG)),
+    Row::Decides(Some(LONG)),
+    Row::At(LONG, Of::KeptAt(&[4, 2, 1])),
     Row::WaitsAt(3, Some((1, LONG))),
     Row::At(LONG, Of::Tells(3)),
     Row::WaitsAt(3, None),
     Row::WaitsAt(2, Some((1, LONG))),
-    Row::At(LONG, Of::Sent(3, &TEN_LONG)),
+    Row::At(LONG, Of::Sent(3, &[4, 2, 1])),
     Row::At(FAR, Of::OriginatedAt(false)),
     Row::At(FAR, Of::Originates),
     Row::At(FAR, Of::OriginatedAt(true)),
-    Row::ForgetsAt(3),
+    Row::Forgets(3),
     Row::At(LONG, Of::Unsent(3)),
 ];
 
@@ -673,14 +614,15 @@ fn the_last_of_three_mentions_stays(rt: HostRuntime) -> Result<(), Fail> {
 const TEN_LONG: [Asn; 10] = [2, 4, 3, 5, 6, 7, 8, 9, 10, 1];
 
 // A path of more than eight numbers takes memory of its own.
-static A_LONG_PATH: [Row; 7] = [
+static A_LONG_PATH: [Row; 8] = [
+    Row::ComesUp(2),
     Row::Hears(2, Along::Path(&TEN_LONG), &[FAR, SHORT], &[]),
     Row::At(FAR, Of::Heard(2, &TEN_LONG)),
     Row::At(SHORT, Of::Heard(2, &TEN_LONG)),
-    Row::At(LONG, Of::Unheard(2)),
-    Row::At(FAR, Of::Keeps(&TEN_LONG)),
-    Row::At(FAR, Of::Tells(3)),
-    Row::At(FAR, Of::Sent(3, &TEN_LONG)),
+    Row::Hears(2, Along::Path(&[2, 3, 5, 6, 7, 8, 9, 10, 1]), &[LONG], &[]),
+    Row::Decides(Some(LONG)),
+    Row::At(LONG, Of::Tells(3)),
+    Row::At(LONG, Of::Sent(3, &[4, 2, 3, 5, 6, 7, 8, 9, 10, 1])),
 ];
 
 #[test]
@@ -749,7 +691,7 @@ static FORGETS_ONE_OF_TWO: [Row; 15] = [
     Row::ComesUp(3),
     Row::Hears(2, Along::Path(&[2, 1]), &[SHORT, LONG], &[]),
     Row::Hears(3, Along::Path(&[3, 1]), &[SHORT, LONG], &[]),
-    Row::At(SHORT, Of::Keeps(&[4, 2, 1])),
+    Row::Decides(Some(SHORT)),
     Row::At(SHORT, Of::Tells(2)),
     Row::At(SHORT, Of::Tells(3)),
     Row::Forgets(2),
@@ -829,28 +771,15 @@ fn prefixes_are_decided_in_order(rt: HostRuntime) -> Result<(), Fail> {
     tries(&rt, rt.alloc(), 4, &DECIDED_IN_ORDER)
 }
 
-// A path that is kept in place of the best.
-static ANOTHER_PATH_IS_KEPT: [Row; 5] = [
-    Row::ComesUp(2),
-    Row::Hears(2, Along::Path(&[2, 1]), &[SHORT], &[]),
-    Row::At(SHORT, Of::Keeps(&[4, 3, 1])),
-    Row::Decides(Some(SHORT)),
-    Row::At(SHORT, Of::Kept(&[4, 2, 1])),
-];
-
-#[test]
-fn another_path_is_kept(rt: HostRuntime) -> Result<(), Fail> {
-    tries(&rt, rt.alloc(), 4, &ANOTHER_PATH_IS_KEPT)
-}
-
 // A peer waits for the least prefix whose last word is not the kept path, while it is Established.
-static WAITING_IN_ORDER: [Row; 14] = [
+static WAITING_IN_ORDER: [Row; 15] = [
     Row::ComesUp(2),
     Row::Waits(2, None),
     Row::Awaited(false),
     Row::Pending(false),
-    Row::At(LONG, Of::Keeps(&[4, 3, 1])),
-    Row::At(SHORT, Of::Keeps(&[4, 3, 1])),
+    Row::Hears(2, Along::Path(&[2, 1]), &[LONG, SHORT], &[]),
+    Row::Decides(Some(SHORT)),
+    Row::Decides(Some(LONG)),
     Row::Waits(2, Some(SHORT)),
     Row::Awaited(true),
     Row::Pending(true),
@@ -867,16 +796,19 @@ fn prefixes_wait_in_order(rt: HostRuntime) -> Result<(), Fail> {
 }
 
 // A peer waits where it was told another path, or a path where none is kept now.
-static WAITING_FOR_A_WITHDRAWAL: [Row; 11] = [
+static WAITING_FOR_A_WITHDRAWAL: [Row; 14] = [
     Row::ComesUp(2),
-    Row::At(FAR, Of::Keeps(&[4, 2, 1])),
-    Row::At(FAR, Of::Tells(2)),
+    Row::Hears(2, Along::Path(&[2, 1]), &[LONG], &[]),
+    Row::Decides(Some(LONG)),
+    Row::At(LONG, Of::Tells(2)),
     Row::Waits(2, None),
-    Row::At(FAR, Of::Keeps(&[4])),
-    Row::Waits(2, Some(FAR)),
-    Row::At(FAR, Of::Keeps(&[])),
-    Row::Waits(2, Some(FAR)),
-    Row::At(FAR, Of::Tells(2)),
+    Row::Hears(2, Along::Path(&[2, 3, 1]), &[LONG], &[]),
+    Row::Decides(Some(LONG)),
+    Row::Waits(2, Some(LONG)),
+    Row::Hears(2, Along::Nothing, &[], &[LONG]),
+    Row::Decides(Some(LONG)),
+    Row::Waits(2, Some(LONG)),
+    Row::At(LONG, Of::Tells(2)),
     Row::Waits(2, None),
     Row::Pending(false),
 ];

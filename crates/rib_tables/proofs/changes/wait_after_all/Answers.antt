@@ -2,11 +2,10 @@ use Rattle.std.proofs.Common.{◌≡◌, ◌≢◌, ℕ, false, slice_set, get_o
 use Rattle.std.specs.List.{slice_get}
 use Rattle.std.proofs.lemmas.Bool.{cases_order}
 use Rattle.std.proofs.lemmas.List.{length-set}
-use Rattle.std.proofs.lemmas.Option.{slice_get_within, slice_get-get_or}
+use Rattle.std.proofs.lemmas.Option.{slice_get_within, slice_get-get_or, same_Some}
 use Rattle.rib_tables.specs.declared.place_set.PlaceSet.{PlaceSet}
 use Rattle.rib_tables.specs.declared.row.Peer.{Peer}
 use Rattle.rib_tables.specs.Rows.{IsWaiting}
-use Rattle.rib_tables.proofs.RowChoices.{some_of}
 use Rattle.rib_tables.proofs.RibLemmas.{set_here, set_there}
 use Rattle.rib_tables.proofs.changes.wait_after_all.Goals as goal
 
@@ -21,9 +20,9 @@ loop-place-preserved c =
       passed = λ k p waiting under at there. elim (cases_order k n) [
         | inl same ↦
             let x : Peer = get_or c.args.peers.now n (record { asn = 0; up = false }) in
-            let peer : p ≡ x = some_of p x (sym at ∙ ap (λ (j : ℕ). slice_get c.args.peers.now j) same ∙ slice_get-get_or c.args.peers.now n (record { asn = 0; up = false }) lt) in
+            let peer : p ≡ x = same_Some p x (sym at ∙ ap (λ (j : ℕ). slice_get c.args.peers.now j) same ∙ slice_get-get_or c.args.peers.now n (record { asn = 0; up = false }) lt) in
             let set : waiting ≡ c.waiting_now.result =
-            some_of waiting c.waiting_now.result (sym there ∙ ap (λ (j : ℕ). slice_get (slice_set waits n c.waiting_now.result) j) same ∙ set_here waits n c.waiting_now.result (omega (arith, lt, long))) in
+            same_Some waiting c.waiting_now.result (sym there ∙ ap (λ (j : ℕ). slice_get (slice_set waits n c.waiting_now.result) j) same ∙ set_here waits n c.waiting_now.result (omega (arith, lt, long))) in
             subst (λ (j : ℕ). IsWaiting j p c.args.rows.now waiting) (sym same)
             (subst (λ (y : Peer). IsWaiting n y c.args.rows.now waiting) (sym peer) (subst (λ (w : PlaceSet). IsWaiting n x c.args.rows.now w) (sym set) c.waiting_now.ensures))
         | inr differ ↦

@@ -1,13 +1,12 @@
-use Rattle.std.proofs.Common.{◌+◌, ℕ, List, get_or, false, length, sym, subst, ap, ◌∙◌, arith}
-use Rattle.std.proofs.lemmas.Bool.{eqb-true, both_ways}
-use Rattle.std.proofs.lemmas.List.{nil_from_length}
+use Rattle.std.proofs.Common.{◌+◌, ℕ, List, get_or, false, length, sym, subst, ap, arith}
+use Rattle.std.proofs.lemmas.Bool.{both_ways}
 use Rattle.std.proofs.lemmas.Option.{slice_get-get_or, slice_get_read}
+use Rattle.ranked_policy.specs.Choices.{IsFirstOrNone, path_by}
+use Rattle.ranked_policy.proofs.ChoiceLemmas.{better_is_first}
 use Rattle.rib_tables.specs.Words.{nothing}
-use Rattle.rib_tables.specs.Choices.{IsFirstOrNone}
-use Rattle.rib_tables.specs.Rows.{RowHears, path_by}
-use Rattle.rib_tables.proofs.ChoiceLemmas.{not_empty, never}
-use Rattle.rib_tables.proofs.RowChoices.{step_silent, step_takes, step_keeps, nothing_heard}
-use Rattle.rib_tables.proofs.row.best_onward.Goals.{then-peer+then-not-is_empty+then-is_taken, then-peer+else-not-is_empty, else-not-is_empty-via-then-not-is_empty+else-is_taken, else-not-is_empty-via-else-not-is_empty, else-peer}
+use Rattle.rib_tables.specs.Rows.{RowHears}
+use Rattle.rib_tables.proofs.RowChoices.{row_silent, row_hears, nothing_heard}
+use Rattle.rib_tables.proofs.row.best_onward.Goals.{then-peer, else-peer}
 use Rattle.rib_tables.proofs.row.best_onward.Goals as goal
 
 pub loop-place-preserved : goal.loop-place-preserved
@@ -21,26 +20,15 @@ loop-place-preserved c = λ table q is at speaks.
     let before = c.loop-place.invariant table q is at speaks in
     let Goal : List ℕ → Type 0 = λ b. IsFirstOrNone (RowHears peers heard (n + 1)) table q (path_by c.args.router b) in
     elim c.if-peer.branch [
-      | then-peer+then-not-is_empty+then-is_taken w ↦
+      | then-peer w ↦
           let word = slice_get_read heard (length peers) n w.index-heard-place.result (sym c.requires) c.loop-place-test.true w.index-heard-place.is in
           subst Goal (sym (ap (λ b. b.now) w.best-is))
-          (step_takes c.args.policy.now c.args.router peers heard n x w.index-heard-place.result here word table q order at speaks w.if-peer.true w.path-rest.result.now w.path-rest.ensures
-          (not_empty w.path-rest.result.now (sym w.is_empty.ensures ∙ w.if-not-is_empty.true)) c.loop-place.best.now (w.is_taken.ensures.0 w.if-is_taken.true) before)
-      | then-peer+else-not-is_empty w ↦
-          let word = slice_get_read heard (length peers) n w.index-heard-place.result (sym c.requires) c.loop-place-test.true w.index-heard-place.is in
-          subst Goal (sym (ap (λ b. b.now) w.best-is))
-          (elim w.else-not-is_empty.branch [
-            | else-not-is_empty-via-then-not-is_empty+else-is_taken v ↦
-                step_keeps c.args.policy.now c.args.router peers heard n x w.index-heard-place.result here word table q order at speaks w.if-peer.true w.path-rest.result.now w.path-rest.ensures
-                (not_empty w.path-rest.result.now (sym w.is_empty.ensures ∙ v.if-not-is_empty.true)) c.loop-place.best.now (λ t. never (sym v.if-is_taken.false ∙ v.is_taken.ensures.1 t)) before
-            | else-not-is_empty-via-else-not-is_empty v ↦
-                let none = nil_from_length w.path-rest.result.now (eqb-true (length w.path-rest.result.now) 0 (sym w.is_empty.ensures ∙ v.if-not-is_empty.false)) in
-                step_silent c.args.policy.now c.args.router peers heard n x w.index-heard-place.result here word table q order at speaks c.loop-place.best.now (λ up some. some (sym w.path-rest.ensures ∙ none)) before
-          ])
+          (better_is_first c.args.policy.now table q order speaks (RowHears peers heard n) (RowHears peers heard (n + 1)) x.asn w.path.result.now
+          (row_hears peers heard n x w.index-heard-place.result here word w.if-peer.true w.path.result.now w.path.ensures) c.args.router at c.loop-place.best.now w.better_onward-best.result.now w.better_onward-best.ensures before)
       | else-peer w ↦
           let word = slice_get-get_or heard n nothing (omega (arith, c.requires, c.loop-place-test.true)) in
           subst Goal (sym (ap (λ b. b.now) w.best-is))
-          (step_silent c.args.policy.now c.args.router peers heard n x (get_or heard n nothing) here word table q order at speaks c.loop-place.best.now (λ up _. both_ways x.up w.if-peer.false up) before)
+          (row_silent peers heard n x (get_or heard n nothing) here word (λ up. both_ways x.up w.if-peer.false up) table q (path_by c.args.router c.loop-place.best.now) before)
     ]
 
 pub returns : goal.returns

@@ -2,8 +2,8 @@
 use Rattle.std.proofs.Common.{◌≡◌}
 use Rattle.prefix_lanes.specs.Bits.{PrefixView}
 use Rattle.ranked_policy.specs.Policies.{Table, IsTable}
-use Rattle.rib_tables.specs.Choices.{IsFirstOrNone, Speaks}
-use Rattle.rib_tables.specs.Rows.{RowHears, path_by}
+use Rattle.ranked_policy.specs.Choices.{IsFirstOrNone, Speaks, path_by}
+use Rattle.rib_tables.specs.Rows.{RowHears}
 use Rattle.rib_tables.proofs.row.best_onward.Given as goal
 
 abbrev pub invariant-loop-place : goal.invariant-loop-place

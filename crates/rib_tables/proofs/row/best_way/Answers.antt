@@ -3,13 +3,13 @@ use Rattle.std.proofs.lemmas.Bool.{eqb-true}
 use Rattle.std.proofs.lemmas.List.{nil_from_length}
 use Rattle.ranked_policy.specs.Policies.{Table}
 use Rattle.rib_tables.specs.declared.word.Word.{Word}
-use Rattle.rib_tables.specs.Choices.{IsFirstOrNone}
-use Rattle.rib_tables.specs.Rows.{RowHears, path_by}
-use Rattle.rib_tables.proofs.ChoiceLemmas.{not_empty}
+use Rattle.ranked_policy.specs.Choices.{IsFirstOrNone, path_by}
+use Rattle.rib_tables.specs.Rows.{RowHears}
 use Rattle.ranked_policy.proofs.OneTable.{table_stands}
-use Rattle.rib_tables.proofs.RowChoices.{path_by_some, path_by_none}
+use Rattle.ranked_policy.proofs.ChoiceLemmas.{path_by_some, path_by_none}
 use Rattle.rib_tables.proofs.DecidingLemmas.{own_best, own_none, heard_best}
 use Rattle.rib_tables.proofs.row.best_way.Goals as goal
+use Rattle.ranked_policy.proofs.WaysOn.{not_empty}
 
 pub returns-then-row-2 : goal.returns-then-row-2
 returns-then-row-2 c = λ net is routers row. own_best net c.args.router c.args.peers.now c.args.row.now is routers row c.if-row.true c.if-row-2.true

@@ -1,9 +1,9 @@
 use Rattle.std.proofs.Common.{ℕ, List, ◌∷◌, arith, ◌∙◌, sym, subst}
 use Rattle.std.specs.Prelude.{MatchOption, []}
+use Rattle.std.proofs.lemmas.Option.{same_Some}
 use Rattle.rib_tables.specs.declared.row.Row.{Row}
 use Rattle.rib_tables.specs.Rows.{IsRowBest}
 use Rattle.rib_tables.proofs.ChoiceLemmas.{never}
-use Rattle.rib_tables.proofs.RowChoices.{some_of}
 use Rattle.rib_tables.proofs.DecidingLemmas.{read_at, clear_more, decided_more, all_decided, first_fails, row_best_once, settled_by}
 use Rattle.rib_tables.proofs.row.first_undecided.Goals as goal
 
@@ -42,7 +42,7 @@ returns-then-not-goes_on-clause-best c = λ net judged r there.
     let rows = c.args.rows.now in
     let row = c.index-rows-place.result in
     let at = read_at rows c.in_ok-place.place row c.if-place-rows.false c.index-rows-place.is in
-    subst (λ (s : Row). MatchOption c.best_way-way.result (IsRowBest net c.args.router c.args.peers.now s []) (λ rest. IsRowBest net c.args.router c.args.peers.now s (c.args.router ∷ rest.now))) (some_of row r (sym at ∙ there))
+    subst (λ (s : Row). MatchOption c.best_way-way.result (IsRowBest net c.args.router c.args.peers.now s []) (λ rest. IsRowBest net c.args.router c.args.peers.now s (c.args.router ∷ rest.now))) (same_Some row r (sym at ∙ there))
     (c.best_way-way.ensures net judged.network judged.routers (judged.each c.in_ok-place.place row at))
 
 -- all places were taken out

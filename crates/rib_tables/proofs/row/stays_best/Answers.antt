@@ -1,8 +1,8 @@
-use Rattle.std.proofs.Common.{◌≡◌, ◌∙◌, ℕ, List, [], ◌∷◌, ◌⊎◌, length, get_or, drop, not, sym, ap, subst}
+use Rattle.std.proofs.Common.{◌≡◌, ◌∙◌, ℕ, List, [], length, get_or, drop, not, sym, ap, subst}
 use Rattle.std.proofs.lemmas.Bool.{eqb-true}
 use Rattle.std.proofs.lemmas.List.{nil_from_length}
 use Rattle.std.proofs.lemmas.Option.{slice_get-get_or}
-use Rattle.ranked_policy.specs.Choosing.{chosen_permits, chosen_prefers}
+use Rattle.ranked_policy.specs.Choices.{IsTaken}
 use Rattle.rib_tables.specs.declared.word.Word.{Word}
 use Rattle.rib_tables.specs.Words.{path_in}
 use Rattle.rib_tables.proofs.ChoiceLemmas.{never}
@@ -30,9 +30,9 @@ returns-else-is_empty c = λ no net peers is routers row best.
     let k = c.args.peer in
     let d = c.index-as_slice-peer.result in
     let onward = c.onward-best.ensures ∙ ap (λ (p : List ℕ). drop 1 p) c.as_slice.ensures in
-    let Taken : List ℕ → List ℕ → Type 0 = λ rest way. chosen_permits r.policy (c.args.router ∷ rest) × ((way ≡ []) ⊎ chosen_prefers r.policy (c.args.router ∷ rest) (c.args.router ∷ way)) in
     heard_stays net c.args.router peers r k c.args.word.now c.each_policy_is_an_order.ensures is row (get_or r.heard k d) (slice_get-get_or r.heard k d c.requires)
     (λ some said. never (c.if-gives.ensures.1 ((λ e. some (sym onward ∙ e)), ap path_in c.index-as_slice-peer.is ∙ ap (λ (ws : List Word). path_in (get_or ws k d)) c.as_slice-2.ensures ∙ said ∙ sym onward)))
     (λ some taken.
-    let t = c.is_taken.ensures.1 (subst (λ (rest : List ℕ). Taken rest c.onward-best.result.now) (sym c.path-rest.ensures) (subst (Taken (path_in c.args.word.now)) (sym onward) taken)) in
+    let Taken : List ℕ → List ℕ → Type 0 = IsTaken r.policy c.args.router in
+    let t = c.takes_onward.ensures.1 (subst (λ (rest : List ℕ). Taken rest c.onward-best.result.now) (sym c.path-rest.ensures) (subst (Taken (path_in c.args.word.now)) (sym onward) taken)) in
     never (sym (ap not t) ∙ no)) best

@@ -1,7 +1,8 @@
 use Rattle.std.proofs.Common.{◌≢◌, ◌∙◌, [], sym}
-use Rattle.stable_paths.proofs.ListLemmas.{not_empty, never}
+use Rattle.stable_paths.proofs.ListLemmas.{never}
 use Rattle.stable_paths.proofs.TableLemmas.{may_by, may_not}
 use Rattle.stable_paths.proofs.stability.may_have.Goals as goal
+use Rattle.ranked_policy.proofs.WaysOn.{not_empty}
 
 pub returns-in-None : goal.returns-in-None
 returns-in-None c =

@@ -2,7 +2,7 @@ use Rattle.std.proofs.Common.{◌≡◌, subst, sym}
 use Rattle.std.specs.Prelude.{◌↔◌, IsTrue}
 use Rattle.ranked_policy.specs.Plans.{Plan}
 use Rattle.ranked_policy.specs.Policies.{IsTableOf, Originates}
-use Rattle.stable_paths.specs.Stable.{Speaks}
+use Rattle.ranked_policy.specs.Choices.{Speaks}
 use Rattle.stable_paths.proofs.TableLemmas.{origin_here}
 use Rattle.stable_search.proofs.chooser.chooser_of.Goals as goal
 

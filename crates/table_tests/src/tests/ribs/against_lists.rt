@@ -70,15 +70,6 @@ impl Dice {
             _ => named.far,
         }
     }
-
-    // A path that is kept in place of the best.
-    fn path(&mut self) -> [Asn; 3] {
-        match self.roll(3) {
-            0 => [4, 2, 1],
-            1 => [4, 3, 1],
-            _ => [4, 5, 1],
-        }
-    }
 }
 
 static CHORDED: [(Asn, Asn); 6] = [(1, 2), (2, 4), (4, 3), (3, 1), (4, 5), (5, 1)];
@@ -195,16 +186,6 @@ fn both_withdraw(rib: &mut Rib, lists: &mut Lists, prefix: &Prefix) -> bool {
     withdraws(rib, prefix)
 }
 
-fn both_keep(
-    alloc: Global,
-    rib: &mut Rib,
-    lists: &mut Lists,
-    prefix: &Prefix,
-    path: &[Asn],
-) -> bool {
-    keeps(alloc, rib, prefix, path) && lists.keep(prefix, path).is_ok()
-}
-
 fn both_clear(rib: &mut Rib, lists: &mut Lists) -> bool {
     lists.clear();
     clears(rib)
@@ -236,8 +217,7 @@ fn step(
         25 | 26 => both_forget(rib, lists, peer),
         27 | 28 => both_originate(rib, lists, &named.far),
         29 => both_withdraw(rib, lists, &named.far),
-        30 | 31 => both_keep(alloc, rib, lists, &prefix, &dice.path()),
-        32 => both_clear(rib, lists),
+        30 => both_clear(rib, lists),
         _ => both_decide(alloc, rib, lists),
     }
 }

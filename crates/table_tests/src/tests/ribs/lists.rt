@@ -165,22 +165,13 @@ impl<'a> Lists<'a> {
         self.originated.contains(prefix)
     }
 
-    fn set(&mut self, prefix: &Prefix, path: Path) -> Result<(), AllocError> {
+    pub(super) fn keep_best(&mut self, prefix: &Prefix) -> Result<(), AllocError> {
+        let path = self.best(prefix)?;
         self.kept.push(Kept {
             prefix: *prefix,
             path,
         })?;
         Ok(())
-    }
-
-    pub(super) fn keep(&mut self, prefix: &Prefix, path: &[Asn]) -> Result<(), AllocError> {
-        let path = Path::from_slice(self.alloc, path)?;
-        self.set(prefix, path)
-    }
-
-    pub(super) fn keep_best(&mut self, prefix: &Prefix) -> Result<(), AllocError> {
-        let best = self.best(prefix)?;
-        self.set(prefix, best)
     }
 
     pub(super) fn path(&self, prefix: &Prefix) -> &[Asn] {

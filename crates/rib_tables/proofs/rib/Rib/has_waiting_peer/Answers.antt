@@ -1,11 +1,10 @@
 use Rattle.std.proofs.Common.{◌≡◌, ℕ, List, [], Some, length, get_or, subst, sym, ap, ◌∙◌, arith, inl, inr, rules}
 use Rattle.std.specs.List.{slice_get}
 use Rattle.std.proofs.lemmas.Bool.{cases_order}
-use Rattle.std.proofs.lemmas.Option.{slice_get_within, slice_get-get_or}
+use Rattle.std.proofs.lemmas.Option.{slice_get_within, slice_get-get_or, same_Some}
 use Rattle.rib_tables.specs.declared.place_set.PlaceSet.{PlaceSet}
 use Rattle.rib_tables.specs.Places.{has}
 use Rattle.rib_tables.specs.Owners.{HasWaitingPeer, AllServed}
-use Rattle.rib_tables.proofs.RowChoices.{some_of}
 use Rattle.rib_tables.proofs.ChangeLemmas.{within}
 use Rattle.rib_tables.proofs.AskingLemmas.{is_awaited_there, all_served}
 use Rattle.rib_tables.proofs.rib.Rib.has_waiting_peer.Goals as goal
@@ -18,7 +17,7 @@ loop-waiting-preserved c = λ k w lt at i below.
     let none : PlaceSet = record { words = [] } in
     elim (cases_order k n) [
       | inl same ↦
-          let is : w ≡ get_or items n none = some_of w (get_or items n none) (sym at ∙ ap (λ (j : ℕ). slice_get items j) same ∙ slice_get-get_or items n none c.loop-waiting-test.true) in
+          let is : w ≡ get_or items n none = same_Some w (get_or items n none) (sym at ∙ ap (λ (j : ℕ). slice_get items j) same ∙ slice_get-get_or items n none c.loop-waiting-test.true) in
           let len : length s.rows.items ≡ s.rows.len = search rules in
           let many = c.len.ensures in
           ap (λ (x : PlaceSet). has x i) is ∙ c.has_below.ensures.none c.if-has_below.false i (omega (arith, below, len, many))
