@@ -57,13 +57,6 @@ heard p q v u h is es cs ws =
     let still = (heard_is p.channels.items v h).1 in
     rw still (ap Some (is ∙ links_alike p _ _ _ _ _ _ es (cs ∙ joined (channel_in p.channels.items) (UpdateMsg u ∷ []) v) ws))
 
-copied_by : (b : Bool) (u w : Update) → Some w ≡ cond b (Some u) None → w ≡ u
-copied_by true u w e = ap (λ o. unwrap_or o w) e
-copied_by false u w e = absurd (none-some _ (sym e))
-
-pub copied : (o : Option Part) (v : ℕ) (u w : Update) → Some w ≡ copy_for o v u → w ≡ u
-copied o v u w e = copied_by (is_heard o v) u w e
-
 -- ---- a marker that ends a channel
 
 pub ended : (p q : Part) (v : ℕ)

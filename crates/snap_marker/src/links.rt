@@ -1,9 +1,9 @@
 //! The links of a part, by peer.
 
-ghost use Rattle.std.specs.Prelude.{◌≡◌, ◌≤◌, ◌<◌, [], ◌∷◌, ◌++◌, true, false, not, cond, Some, None, length, MatchOption, IfOk, OnOk};
+ghost use Rattle.std.specs.Prelude.{◌≡◌, ◌≤◌, ◌<◌, [], ◌∷◌, ◌++◌, true, false, not, cond, map, Some, None, length, MatchOption, IfOk, OnOk};
 ghost use Rattle.bgp_codec.specs.declared.message.Message.TheVariants.{UpdateMsg};
 ghost use Rattle.std.specs.List.{find, list_any, position};
-ghost use Rattle.snap_marker.specs.Parts.{peers_of, epoch_in, waits_for_marker, channel_in, is_empty, messages, room_in, is_heard_in, with_link, IsAt, leads, leads_to};
+ghost use Rattle.snap_marker.specs.Parts.{peers_of, epoch_in, waits_for_marker, channel_in, is_empty, messages, room_in, is_heard_in, seen, with_link, IsAt, leads, leads_to};
 
 use crate::part::Channel;
 use bgp_codec::Update;
@@ -130,11 +130,7 @@ pub(crate) fn close_channel(channels: &mut Vec<Channel>, peer: Asn)
 // Makes room for one UPDATE more in the channel of a peer.
 fn reserve_update(channels: &mut Vec<Channel>, peer: Asn) -> Result<(), AllocError>
     ensures room { OnOk result (leads_to peer channels.old.items ≡ true → 1 ≤ room_in channels.new.items peer) }
-    ensures heard { is_heard_in channels.new.items ≡ is_heard_in channels.old.items }
-    ensures waits { waits_for_marker channels.new.items ≡ waits_for_marker channels.old.items }
-    ensures epochs { epoch_in channels.new.items ≡ epoch_in channels.old.items }
-    ensures channels { channel_in channels.new.items ≡ channel_in channels.old.items }
-    ensures peers { peers_of channels.new.items ≡ peers_of channels.old.items }
+    ensures seen { map seen channels.new.items ≡ map seen channels.old.items }
 {
     if let Some(place) = place_of(channels, peer) {
         channels[place].updates.reserve(1)?;
@@ -151,11 +147,7 @@ pub(crate) fn copy_update(
 ) -> Result<Option<Update>, AllocError>
     ensures copy { IfOk result (λ copy. copy ≡ cond (is_heard_in channels.old.items peer) (Some update.now) None) }
     ensures room { OnOk result (is_heard_in channels.new.items peer ≡ true → 1 ≤ room_in channels.new.items peer) }
-    ensures heard { is_heard_in channels.new.items ≡ is_heard_in channels.old.items }
-    ensures waits { waits_for_marker channels.new.items ≡ waits_for_marker channels.old.items }
-    ensures epochs { epoch_in channels.new.items ≡ epoch_in channels.old.items }
-    ensures channels { channel_in channels.new.items ≡ channel_in channels.old.items }
-    ensures peers { peers_of channels.new.items ≡ peers_of channels.old.items }
+    ensures seen { map seen channels.new.items ≡ map seen channels.old.items }
 {
     if !is_heard(channels, peer) {
         return Ok(None);
