@@ -38,7 +38,7 @@ pub(crate) struct Block {
     places: Vec<Stored>,
 }
 
-// The UPDATE that some octets spell. It is refused only where memory was: what is kept is an UPDATE.
+// The UPDATE that some octets spell. It is refused only for want of memory: what is kept is an UPDATE.
 fn read(alloc: Global, width: Width, epoch: u32, octets: &[u8]) -> Result<PastUpdate, AllocError>
     requires { IsFrame octets.now }
     ensures epoch { IfOk result (λ told. told.epoch ≡ epoch) }
@@ -82,7 +82,7 @@ fn with_front(alloc: Global, len: u16, octets: &[u8]) -> Result<Vec<u8>, AllocEr
     Ok(whole)
 }
 
-// The UPDATE at a place, by its stored octets. It is refused only where memory was.
+// The UPDATE at a place, by its stored octets. It is refused only for want of memory.
 fn read_stored(
     alloc: Global,
     width: Width,
@@ -114,7 +114,7 @@ impl Block {
         }
     }
 
-    // No UPDATE, with room for so many octets, and for so many UPDATEs. It is refused only where memory was.
+    // No UPDATE, with room for so many octets, and for so many UPDATEs. It is refused only for want of memory.
     pub(crate) fn with_room(
         alloc: Global,
         octets: usize,
@@ -162,7 +162,7 @@ impl Block {
         self.places.len()
     }
 
-    // Appends the UPDATEs, each with its incarnation. It is refused only where memory was.
+    // Appends the UPDATEs, each with its incarnation. It is refused only for want of memory.
     pub(crate) fn put_updates(
         &self,
         alloc: Global,

@@ -83,7 +83,7 @@ impl History {
         }
     }
 
-    /// The UPDATEs in their order, each with its incarnation. It is refused only where memory was.
+    /// The UPDATEs in their order, each with its incarnation. It is refused only for want of memory.
     pub fn updates(&self, alloc: Global, width: Width) -> Result<Vec<PastUpdate>, AllocError>
         ensures { IfOk result (λ told. told.items ≡ told_with width self.now) }
     {

@@ -13,7 +13,7 @@ use session_fsm::FsmEvent;
 use std::alloc::AllocError;
 
 impl SideEnd {
-    /// Makes room for the UPDATE in front to be acted on. It is refused only where memory was, and the side stays
+    /// Makes room for the UPDATE in front to be acted on. It is refused only for want of memory, and the side stays
     /// as it was, with the room that it had.
     pub fn reserve_acting(&mut self) -> Result<(), AllocError>
         ensures side { side self.new ≡ side self.old }

@@ -27,7 +27,7 @@ use bgp_values::MESSAGE_LIMIT;
 use std::alloc::{AllocError, Global};
 
 impl SideEnd {
-    /// Makes room for all that a draft appends. It is refused only where memory was, and the side stays
+    /// Makes room for all that a draft appends. It is refused only for want of memory, and the side stays
     /// as it was, with the room that it had, or more.
     pub fn reserve(
         &mut self,
@@ -165,8 +165,7 @@ pub(super) fn keep_front(acted: &mut History, framer: &Framer, epoch: u32)
     }
 }
 
-// The UPDATE at hand, which stands in front, joins those acted on where it is one of them, by the octets of
-// its frame. It takes no memory.
+// If the draft acts on it, the UPDATE in front joins those acted on, by the octets of its frame. It takes no memory.
 fn count_front(acted: &mut History, framer: &Framer, acts: bool, given: &Brought, epoch: u32)
     requires waits { is_waiting framer.now.octets ≡ true }
     requires front { (w : widths.Width) × IsInFront w framer.now.octets (hand given.now) }

@@ -15,7 +15,7 @@ use link_epoch::Sign;
 use session_fsm::FsmEvent;
 
 impl SideEnd {
-    /// What an event that brings nothing will make of it: a start, a stop.
+    /// What an event that brings nothing will make of the side: a start, a stop.
     pub fn draft_event(&self, own_open: &Message, event: FsmEvent) -> SideDraft
         requires { IsGoodEvent event }
         ensures { draft own_open.now NoMessage result ≡ draft_event own_open.now (side self.now) event }
@@ -25,7 +25,7 @@ impl SideEnd {
         made
     }
 
-    /// What a stop and a start will make of it.
+    /// What a stop and a start will make of the side.
     pub fn draft_reset(&self, own_open: &Message) -> SideDraft
         ensures { draft own_open.now NoMessage result ≡ draft_reset own_open.now (side self.now) }
     {
@@ -35,7 +35,7 @@ impl SideEnd {
         made
     }
 
-    /// What a second will make of it.
+    /// What a second will make of the side.
     pub fn draft_second(&self, own_open: &Message) -> SideDraft
         ensures { draft own_open.now NoMessage result ≡ draft_second own_open.now (side self.now) }
     {
@@ -57,7 +57,7 @@ impl SideEnd {
         session.tick().is_some()
     }
 
-    /// What a sign of the peer will make of it.
+    /// What a sign of the peer will make of the side.
     pub fn draft_sign(&self, own_open: &Message, sign: Sign) -> SideDraft
         ensures { draft own_open.now NoMessage result ≡ draft_sign own_open.now (side self.now) sign }
     {
@@ -68,7 +68,7 @@ impl SideEnd {
         made
     }
 
-    /// What the message or fault in front will make of it, by the event that it brings.
+    /// What the message or fault in front will make of the side, by the event that it brings.
     pub fn draft_message(&self, own_open: &Message, given: &Brought, event: FsmEvent) -> SideDraft
         requires { IsGoodEvent event }
         ensures { draft own_open.now (hand given.now) result

@@ -53,7 +53,7 @@ impl SideEnd {
     }
 
     /// What [`SideEnd::front`] answers, for a caller that has not asked [`SideEnd::path_in_front`] before: a path
-    /// that is told is read from its octets. It is refused only where memory was.
+    /// that is told is read from its octets. It is refused only for want of memory.
     pub fn front_to_show(
         &self,
         alloc: Global,
@@ -76,7 +76,7 @@ impl SideEnd {
     }
 
     /// The path that the message in front tells, where it is such an UPDATE as a router appends for a path, and
-    /// one that is announced begins with the peer. It is refused only where memory was.
+    /// one that is announced begins with the peer. It is refused only for want of memory.
     pub fn path_in_front(&self, alloc: Global, peer: Asn) -> Result<Option<ToldPath>, AllocError>
         ensures { IfOk result (λ found. IfSome found (IsRouteInFront (side self.now).width peer (side self.now).held)) }
     {

@@ -12,7 +12,7 @@ use outbox::Control;
 use std::alloc::AllocError;
 
 impl SideEnd {
-    /// Makes room for a path to be told. It is refused only where memory was, and the side stays as it was, with the
+    /// Makes room for a path to be told. It is refused only for want of memory, and the side stays as it was, with the
     /// room that it had, or more.
     pub fn reserve_path(&mut self, route: &ToldPath) -> Result<(), AllocError>
         ensures side { side self.new ≡ side self.old }
@@ -41,7 +41,7 @@ impl SideEnd {
         self.session.update_sent();
     }
 
-    /// Makes room for a marker. It is refused only where memory was, and the side stays as it was, with the room that
+    /// Makes room for a marker. It is refused only for want of memory, and the side stays as it was, with the room that
     /// it had, or more.
     pub fn reserve_marker(&mut self) -> Result<(), AllocError>
         ensures side { side self.new ≡ side self.old }
