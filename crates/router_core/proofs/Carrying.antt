@@ -3,7 +3,6 @@ use Rattle.std.proofs.Common.{◌≡◌, ℕ, ◌≤◌, ◌<◌, Bool, true, fa
 use Rattle.std.proofs.Math.Path.{fun_ext}
 use Rattle.std.specs.Prelude.{◌+◌, nat_lt, Result, Ok, Err}
 use Rattle.bgp_codec.specs.declared.message.Message.{Message}
-use Rattle.session_fsm.specs.declared.event.FsmEvent.TheVariants.{ManualStart, ManualStop}
 use Rattle.run_model.specs.Network.{alone}
 use Rattle.ranked_policy.specs.Plans.{Plan}
 use Rattle.std.proofs.lemmas.Bool.{eqb-true, eqb-false}
@@ -19,13 +18,13 @@ use Rattle.snap_marker.specs.Parts.{MarkView, snapshots_of, IsOver, AreOf}
 use Rattle.router_side.specs.Freshness.{IsFresh, KeepsFresh, is_opening, is_away}
 use Rattle.router_core.specs.Following.{Followed, standing}
 use Rattle.router_core.proofs.Following.{Leaves, IsShort, leaves_same, leaves, all_sent, all_heard, follows_there, follows_alike, follows_by}
-use Rattle.router_model.specs.declared.command.Command.TheVariants.{Start, Stop, Reset}
+use Rattle.router_model.specs.declared.command.Command.{Command}
 use Rattle.router_model.specs.declared.refusal.RouterError.{RouterError}
 use Rattle.router_model.specs.declared.refusal.RouterError.TheVariants as error
 use Rattle.router_model.specs.declared.refusal.Stepped.{Stepped}
 use Rattle.router_model.specs.declared.refusal.Stepped.TheVariants as stepped
 use Rattle.router_model.specs.Settings.{Setting, linked, peers}
-use Rattle.router_model.specs.Sides.{Side, AtHand, NoMessage, Draft, carried, acted_with, is_up, without_front, draft_event, draft_reset}
+use Rattle.router_model.specs.Sides.{Side, AtHand, NoMessage, Draft, carried, acted_with, is_up, without_front}
 use Rattle.router_model.specs.State.{open_of, rule_of}
 use Rattle.router_model.specs.Step.{RouterEvent, Obeys, with_side, moved, seen, close_at}
 use Rattle.router_model.specs.Calls.{Stamped, Call, Obey, Gives, answer, judged, unless, stamped_after}
@@ -299,23 +298,12 @@ module _ (g : Setting) (r : RouterView) (y : Stamped) (v i : ℕ) (p : Peer) (a 
   abbrev pub Ended : Bool → ℕ → Type 0
   Ended o stamp = Ends (nat_lt GREATEST_STAMP stamp) o res (plain_of r) (record { router = moved (plain_of r).router v NoMessage a; stamp = stamp }) y
 
-  pub starts : a ≡ draft_event r.own_open (side p.end) ManualStart → Ended a.overflows (r.stamp + 1) → Gives g r.number res (answer g r.number (plain_of r) (Obey (Start v))) (plain_of r) (Obey (Start v)) y
-  starts made ends =
-      let b = draft_event (open_of g.net r.number) (sides_of r v) ManualStart in
-      subst (λ (t : Bool). Gives g r.number res (judged (unless t error.NoSuchPeer) (Some (alone (Obeys (Start v)))) (nat_lt GREATEST_STAMP (r.stamp + 1)) b.overflows) (plain_of r) (Obey (Start v)) y)
-      (sym (is_linked g r v true of l))
-      (one_step g r y v NoMessage a b (r.stamp + 1) (Obey (Start v)) (alone (Obeys (Start v))) res (λ w. w.overflows) (drafted g r v i p (λ o s. draft_event o s ManualStart) a of at here made) refl ends)
-
-  pub stops : a ≡ draft_event r.own_open (side p.end) ManualStop → Ended false (r.stamp + 1) → Gives g r.number res (answer g r.number (plain_of r) (Obey (Stop v))) (plain_of r) (Obey (Stop v)) y
-  stops made ends =
-      let b = draft_event (open_of g.net r.number) (sides_of r v) ManualStop in
-      subst (λ (t : Bool). Gives g r.number res (judged (unless t error.NoSuchPeer) (Some (alone (Obeys (Stop v)))) (nat_lt GREATEST_STAMP (r.stamp + 1)) false) (plain_of r) (Obey (Stop v)) y)
-      (sym (is_linked g r v true of l))
-      (one_step g r y v NoMessage a b (r.stamp + 1) (Obey (Stop v)) (alone (Obeys (Stop v))) res (λ w. false) (drafted g r v i p (λ o s. draft_event o s ManualStop) a of at here made) refl ends)
-
-  pub resets : a ≡ draft_reset r.own_open (side p.end) → Ended a.overflows (r.stamp + 1) → Gives g r.number res (answer g r.number (plain_of r) (Obey (Reset v))) (plain_of r) (Obey (Reset v)) y
-  resets made ends =
-      let b = draft_reset (open_of g.net r.number) (sides_of r v) in
-      subst (λ (t : Bool). Gives g r.number res (judged (unless t error.NoSuchPeer) (Some (alone (Obeys (Reset v)))) (nat_lt GREATEST_STAMP (r.stamp + 1)) b.overflows) (plain_of r) (Obey (Reset v)) y)
-      (sym (is_linked g r v true of l))
-      (one_step g r y v NoMessage a b (r.stamp + 1) (Obey (Reset v)) (alone (Obeys (Reset v))) res (λ w. w.overflows) (drafted g r v i p draft_reset a of at here made) refl ends)
+  -- a command to a session, by what it drafts and by whether that may dial
+  pub commanded : (c : Command) (F : Message → Side → Draft) (o : Draft → Bool)
+      → answer g r.number (plain_of r) (Obey c) ≡ judged (unless (linked g.net r.number v) error.NoSuchPeer) (Some (alone (Obeys c))) (nat_lt GREATEST_STAMP (r.stamp + 1)) (o (F (open_of g.net r.number) (sides_of r v)))
+      → stamped_after g r.number (plain_of r) (Obey c) (alone (Obeys c)) ≡ record { router = moved (plain_of r).router v NoMessage (F (open_of g.net r.number) (sides_of r v)); stamp = r.stamp + 1 }
+      → a ≡ F r.own_open (side p.end) → Ended (o a) (r.stamp + 1) → Gives g r.number res (answer g r.number (plain_of r) (Obey c)) (plain_of r) (Obey c) y
+  commanded c F o answers after made ends =
+      let b = F (open_of g.net r.number) (sides_of r v) in
+      rw (answers, is_linked g r v true of l)
+      (one_step g r y v NoMessage a b (r.stamp + 1) (Obey c) (alone (Obeys c)) res o (drafted g r v i p F a of at here made) after ends)

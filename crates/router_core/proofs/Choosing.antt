@@ -12,7 +12,8 @@ use Rattle.rib_tables.specs.Tables.{word_of, path_of}
 use Rattle.rib_tables.specs.Least.{HoldsOfAll, IsLeastWithout}
 use Rattle.rib_tables.specs.Choices as tables
 use Rattle.rib_tables.specs.Owners.{sources_of, IsSettled}
-use Rattle.rib_tables.specs.Promises.{BestOverWords, HearsWords, HasPathOf}
+use Rattle.ranked_policy.specs.Choices.{HasPathOver}
+use Rattle.rib_tables.specs.Promises.{BestOverWords, HearsWords}
 use Rattle.stable_paths.specs.Stable.{IsBest}
 use Rattle.stable_paths.specs.Promises.{OneBest}
 use Rattle.router_model.specs.Settings.{Setting, ChoosesByRank, linked}
@@ -66,7 +67,7 @@ module _ (over : BestOverWords) (one : OneBest) (g : Setting) (x : RouterView) (
   router_in = subst (λ (net : Plan). IsRouter net.routers x.number) (sym c.net) c.sound.router
 
   abbrev Over : Plan → ℕ → PrefixView → List ℕ → Type 0
-  Over net u q path = (table : Table) × IsTableOf net u table × tables.IsBestOf (Contains x.tables.originated q) (HasPathOf net (words q) u) table q path
+  Over net u q path = (table : Table) × IsTableOf net u table × tables.IsBestOf (Contains x.tables.originated q) (HasPathOver net.links (words q) u) table q path
 
   over_words : (q : PrefixView) → IsNamed x.net.origins q → (path : List ℕ) → tables.IsBest (sources_of x.tables) q path ↔ Over x.tables.net x.tables.router q path
   over_words q n path = over (sources_of x.tables) q (words q) (hears_words q n) path

@@ -10,7 +10,8 @@ use Rattle.ranked_policy.specs.Policies.{Table, IsPermitted}
 use Rattle.rib_tables.specs.Words.{path_in}
 use Rattle.rib_tables.specs.Tables.{path_of, Paths}
 use Rattle.rib_tables.specs.Least.{HoldsOfAll, IsLeastWithout}
-use Rattle.rib_tables.specs.Choices.{Hears, IsOwn, IsFirstOrNone, IsBest}
+use Rattle.ranked_policy.specs.Choices.{IsFirstOrNone}
+use Rattle.rib_tables.specs.Choices.{Hears, IsOwn, IsBest}
 use Rattle.rib_tables.specs.Owners.{RibView, sources_of, IsSettled, KeepsPath, Decides}
 use Rattle.rib_tables.specs.Promises.{BestOverWords}
 use Rattle.stable_paths.specs.Promises.{OneBest}

@@ -12,8 +12,8 @@ use Rattle.router_side.specs.Freshness.{IsFresh, KeepsFresh, SessionsKeepFresh}
 use Rattle.router_side.specs.SideOf.{side}
 use Rattle.router_core.specs.declared.peers.Peer.{Peer}
 use Rattle.router_core.specs.Views.{RouterView, IsAt, side_at}
-use Rattle.router_core.specs.declared.router.to_all.ToAll.{ToAll}
-use Rattle.router_core.specs.declared.router.to_all.ToAll.TheVariants as whole
+use Rattle.router_core.specs.declared.router.carry.SessionEvent.{SessionEvent}
+use Rattle.router_core.specs.declared.router.carry.SessionEvent.TheVariants as event
 use Rattle.router_core.specs.ToAll.{draft_by, overflow_in, IsReady, AreReady, IsRest, first_left}
 use Rattle.router_core.proofs.Marking.{Passed}
 use Rattle.router_core.proofs.Recording.{Rises}
@@ -192,9 +192,11 @@ get_same (p ∷ ps) zero d e l = refl
 get_same (p ∷ ps) (suc i) d e l = get_same ps i d e (omega (arith, l))
 
 -- a draft of all keeps histories fresh
-pub whole_keeps : SessionsKeepFresh → (w : ToAll) (own : Message) (s : Side) → IsFresh s → (draft_by w own s).overflows ≡ false → KeepsFresh s NoMessage (draft_by w own s)
-whole_keeps law whole.Second own s f o = (law own s f).second o
-whole_keeps law whole.Stop own s f o = (law own s f).stop
+pub event_keeps : SessionsKeepFresh → (w : SessionEvent) (own : Message) (s : Side) → IsFresh s → (draft_by w own s).overflows ≡ false → KeepsFresh s NoMessage (draft_by w own s)
+event_keeps law event.Start own s f o = (law own s f).start o
+event_keeps law event.Stop own s f o = (law own s f).stop
+event_keeps law event.Reset own s f o = (law own s f).reset o
+event_keeps law event.Second own s f o = (law own s f).second o
 
 pub rest_then : (x y z : RouterView) → IsRest x y → IsRest y z → IsRest x z
 rest_then x y z a b = record {

@@ -1,7 +1,6 @@
 -- A snapshot that is recorded, as a step of the router.
 use Rattle.std.proofs.Common.{◌≡◌, ℕ, ◌≤◌, ◌==◌, Bool, true, false, not, cond, ◌&&◌, List, [], ◌∷◌, Option, None, Some, refl, sym, ap, ◌∙◌}
 use Rattle.std.proofs.lemmas.Bool.{eqb-true}
-use Rattle.std.specs.Prelude.{Result, Ok, Err, OnErr}
 use Rattle.std.specs.List.{find}
 use Rattle.std.proofs.Math.Path.{fun_ext}
 use Rattle.bgp_codec.specs.declared.message.Message.{Message}
@@ -203,9 +202,3 @@ module _ (over : BestOverWords) (one : OneBest) (law : LinkedRoutersArePeers) (g
       ap (λ (y : ℕ → Side). record { router = record x { sides = y; snapshots = snapshots_of m }; stamp = stamp }) (sides_same qs b)
       ∙ ap (λ (y : Snapshots). record { router = record x { sides = λ (v : ℕ). cond (linked g.net r.number v && is_up (x.sides v)) (marked s (x.sides v)) (x.sides v); snapshots = y }; stamp = stamp })
       (is ∙ begun_same d e)
-
--- ---- a refusal
-
-pub on_err : {A E : Type 0} {X : Type 0} (r : Result A E) → X → OnErr r X
-on_err (Ok a) h = tt
-on_err (Err e) h = h

@@ -170,9 +170,12 @@ stop_by o x l Established Shut e p = rw (e, p) refl
 stop_by o x l Established Offered e p = rw (e, p) refl
 stop_by o x l Established Joined e p = rw (e, p) refl
 
+pub stop_fits : (o : Message) (s : Side) → (draft_event o s ManualStop).overflows ≡ false
+stop_fits o s = stop_by o s.session s.link s.session.state s.link.phase refl refl
+
 pub stops_fit : (o : Message) (ps : List Peer) → overflow_in (λ s. draft_event o s ManualStop) ps ≡ false
 stops_fit o [] = refl
-stops_fit o (p ∷ ps) = rw (stop_by o (side p.end).session (side p.end).link (side p.end).session.state (side p.end).link.phase refl refl) (stops_fit o ps)
+stops_fit o (p ∷ ps) = rw (stop_fits o (side p.end)) (stops_fit o ps)
 
 -- ---- peers with room, whose sides are as they were
 

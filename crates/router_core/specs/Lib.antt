@@ -1,3 +1,4 @@
+pub mod Fields
 pub mod Views
 pub mod Following
 pub mod Handling

@@ -80,10 +80,6 @@ abbrev pub IsPeer : List Peer → Option ℕ → Type 0
 IsPeer ps None = Unit {0}
 IsPeer ps (Some v) = listed v ps ≡ true
 
--- a snapshot is recorded, at the stamp that the router then has, in every setting of its network that chooses by rank
-abbrev pub Records : RouterView → ℕ → Option ℕ → RouterView → Type 0
-Records x s first y = (g : Setting) → g.net ≡ x.net → ChoosesByRank g → plain_of y ≡ record { router = records g x.number (plain_of x).router s first; stamp = y.stamp }
-
 -- a snapshot is recorded at this stamp, or memory is wanting
 abbrev pub RecordsAt : Result Stepped RouterError → RouterView → ℕ → Option ℕ → ℕ → RouterView → Type 0
 RecordsAt r x s first stamp y =

@@ -1,25 +1,36 @@
 -- Events that come to all peers of a router at once.
 use Rattle.std.specs.Prelude.{ℕ, ◌≡◌, ◌||◌, Bool, false, List, [], ◌∷◌, Option, None, is_some, get_or, set}
 use Rattle.bgp_codec.specs.declared.message.Message.{Message}
-use Rattle.session_fsm.specs.declared.event.FsmEvent.TheVariants.{ManualStop}
+use Rattle.session_fsm.specs.declared.event.FsmEvent.TheVariants.{ManualStart, ManualStop}
 use Rattle.session_fsm.specs.Timers.{ticked, runs_out}
 use Rattle.snap_marker.specs.Recordings.{closed}
 use Rattle.snap_marker.specs.Parts.{snapshots_of}
-use Rattle.router_model.specs.Sides.{Side, Draft, NoMessage, carried, draft_event, draft_second}
+use Rattle.router_model.specs.Sides.{Side, Draft, NoMessage, carried, draft_event, draft_reset, draft_second}
+use Rattle.router_model.specs.declared.command.Command.{Command}
+use Rattle.router_model.specs.declared.command.Command.TheVariants as command
 use Rattle.router_model.specs.Step.{close_at, or_first}
 use Rattle.router_side.specs.declared.draft.SideDraft.{SideDraft}
 use Rattle.router_side.specs.Drafts.{draft}
 use Rattle.router_side.specs.SideOf.{side, HasRoom}
 use Rattle.router_core.specs.declared.peers.Peer.{Peer}
-use Rattle.router_core.specs.declared.router.to_all.ToAll.{ToAll}
-use Rattle.router_core.specs.declared.router.to_all.ToAll.TheVariants as whole
+use Rattle.router_core.specs.declared.router.carry.SessionEvent.{SessionEvent}
+use Rattle.router_core.specs.declared.router.carry.SessionEvent.TheVariants as event
 use Rattle.router_core.specs.Views.{RouterView}
 use Rattle.router_core.specs.Recorded.{Become}
 
 -- the draft of a side for such an event
-abbrev pub draft_by : ToAll → Message → Side → Draft
-draft_by whole.Second own_open s = draft_second own_open s
-draft_by whole.Stop own_open s = draft_event own_open s ManualStop
+abbrev pub draft_by : SessionEvent → Message → Side → Draft
+draft_by event.Start own_open s = draft_event own_open s ManualStart
+draft_by event.Stop own_open s = draft_event own_open s ManualStop
+draft_by event.Reset own_open s = draft_reset own_open s
+draft_by event.Second own_open s = draft_second own_open s
+
+-- the command to a session whose event it is
+abbrev pub IsCommanded : SessionEvent → ℕ → Command → Type 0
+IsCommanded event.Start v c = c ≡ command.Start v
+IsCommanded event.Stop v c = c ≡ command.Stop v
+IsCommanded event.Reset v c = c ≡ command.Reset v
+IsCommanded event.Second v c = ⊥
 
 -- a dial of some side would pass the greatest incarnation
 abbrev pub overflow_in : (Side → Draft) → List Peer → Bool

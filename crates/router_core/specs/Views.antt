@@ -1,9 +1,8 @@
 -- A router of the code as a router of the definitions: its list of peers as a function of numbers, its tables as what its sides say.
-use Rattle.std.specs.Prelude.{ℕ, zero, suc, ◌≡◌, ◌≢◌, ◌≤◌, ◌<◌, ◌==◌, nat_lt, Bool, true, false, cond, List, [], ◌∷◌, length, map, Option, None, Some, Result, Ok, Err, MatchResult, ◌+◌}
+use Rattle.std.specs.Prelude.{ℕ, zero, suc, ◌≡◌, ◌≢◌, ◌≤◌, ◌<◌, ◌==◌, nat_lt, Bool, true, false, not, ◌&&◌, cond, List, [], ◌∷◌, length, map, Option, None, Some, Result, Ok, Err, MatchResult, ◌+◌}
 use Rattle.ranked_policy.specs.declared.limits.TheConstants.{LONGEST_PATH}
 use Rattle.bgp_values.specs.declared.width.Width.{Width}
 use Rattle.bgp_codec.specs.AsNumbers.{AsnFits}
-use Rattle.bgp_codec.specs.declared.message.Message.{Message}
 use Rattle.session_fsm.specs.declared.config.SessionConfig.{SessionConfig}
 use Rattle.ranked_policy.specs.Plans.{Plan, IsNetwork, IsRouter}
 use Rattle.router_side.specs.Sayings.{IsSayable}
@@ -25,8 +24,10 @@ use Rattle.rib_tables.specs.Words.{nothing, lists, path_in}
 use Rattle.rib_tables.specs.Tables.{word_of, path_of}
 use Rattle.rib_tables.specs.Owners.{RibView}
 use Rattle.snap_marker.specs.declared.part.Offer.{Offer}
-use Rattle.snap_marker.specs.Parts.{MarkView, snapshots_of, IsOver, IsOf, offer_of, router_of}
+use Rattle.snap_marker.specs.Parts.{snapshots_of, IsOver, IsOf, offer_of, router_of}
 use Rattle.router_model.specs.Settings.{Setting, ChoosesByRank, linked, peers, identifier}
+use Rattle.bgp_framing.specs.Held.{is_waiting}
+use Rattle.outbox.specs.Items.{next_item}
 use Rattle.outbox.specs.declared.item.Item.{Item}
 use Rattle.outbox.specs.declared.item.What.TheVariants as item
 use Rattle.run_model.specs.Network.{alone, puts, takes, offers}
@@ -37,19 +38,21 @@ use Rattle.router_model.specs.Step.{moved, taken, next_offer, with_side}
 use Rattle.router_model.specs.Calls.{Stamped, Call, Put, Answer, Steps, Idle, Refuses, answer, Gives, has_room}
 use Rattle.run_model.specs.declared.stamps.TheConstants.{GREATEST_STAMP}
 use Rattle.router_core.specs.declared.peers.Peer.{Peer}
+use Rattle.router_core.specs.declared.router.Router.TheInside.{Inside}
+pub use Rattle.router_core.specs.Fields.{RouterView}
 use Rattle.router_core.specs.declared.router.choose.Next.{Next}
 use Rattle.router_core.specs.declared.router.choose.Next.TheVariants as next
 
--- a router: its network and number, what it says of itself, its peers by rising number, its tables, what it records, and the stamp
--- of its last event
-pub record RouterView : Type 0 where
-  pub net : Plan
-  pub number : ℕ
-  pub own_open : Message
-  pub peers : List Peer
-  pub tables : RibView
-  pub marks : MarkView
-  pub stamp : ℕ
+abbrev pub view_of : Inside → RouterView
+view_of r = record {
+  net = r.network.now;
+  number = r.number;
+  own_open = r.own_open;
+  peers = r.peers.items;
+  tables = r.tables;
+  marks = r.marks;
+  stamp = r.stamp;
+}
 
 abbrev pub is_number : ℕ → Peer → Bool
 is_number v p = p.number == v
@@ -87,6 +90,20 @@ plain_of x = record {
   router = record { sides = sides_of x; kept = path_of x.tables.kept; originated = lists x.tables.originated; snapshots = snapshots_of x.marks };
   stamp = x.stamp;
 }
+
+-- ---- what there is to do with a peer
+
+-- the next item of a peer may be taken
+abbrev pub may_take : RouterView → ℕ → Bool
+may_take x v = linked x.net x.number v && not (is_waiting (sides_of x v).held)
+
+-- nothing is to be put towards a peer, whatever the greatest size of a piece
+abbrev pub puts_nothing : RouterView → ℕ → ℕ → Bool
+puts_nothing x v cut = linked x.net x.number v && not (is_some (next_item cut (sides_of x v).outbox))
+
+-- and no message or fault of the peer waits
+abbrev pub link_is_idle : RouterView → ℕ → ℕ → Bool
+link_is_idle x v cut = linked x.net x.number v && (not (is_some (next_item cut (sides_of x v).outbox)) && not (is_waiting (sides_of x v).held))
 
 -- ---- tables and sides
 

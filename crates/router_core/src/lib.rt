@@ -8,6 +8,8 @@
 //! Each draft is made by value, judged, given room, and then carried out by appends alone
 //! (`router_side`). A second in which no timer runs out has no draft, nor has a path that is told,
 //! nor a path that is heard in Established while no snapshot is recorded.
+//!
+//! Left out: the pipes between routers, and who makes the calls, in which order.
 #![tactic(auto)]
 
 mod best_path;

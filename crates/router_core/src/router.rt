@@ -51,13 +51,15 @@ pub struct Router<'a> {
 }
 
 impl<'a> Model for Router<'a> {
-    ghost use Rattle.router_core.specs.Views.{RouterView, IsSound};
+    ghost use Rattle.router_core.specs.Fields.{RouterView};
 
     ghost Value = { RouterView };
 
-    ghost view = { λ r. record { net = r.network.now; number = r.number; own_open = r.own_open; peers = r.peers.items; tables = r.tables; marks = r.marks; stamp = r.stamp } };
+    ghost use Rattle.router_core.specs.Views.{view_of, IsSound};
 
-    ghost invariant = { λ r. IsSound (record { net = r.network.now; number = r.number; own_open = r.own_open; peers = r.peers.items; tables = r.tables; marks = r.marks; stamp = r.stamp }) };
+    ghost view = { view_of };
+
+    ghost invariant = { λ r. IsSound (view_of r) };
 }
 
 // The stamp behind this one, if one is left.

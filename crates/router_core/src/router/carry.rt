@@ -15,6 +15,7 @@ ghost use Rattle.router_side.specs.SideOf.{side, IsInFront, HasRoom};
 ghost use Rattle.router_core.specs.Views.{sides_of, IsFound, IsSame, Carries};
 ghost use Rattle.router_core.specs.Calling.{NeedsRoom};
 ghost use Rattle.router_core.specs.Following.{standing, Followed};
+ghost use Rattle.router_core.specs.ToAll.{draft_by};
 
 use super::Router;
 use crate::tables::follow;
@@ -24,8 +25,34 @@ use rib_tables::Rib;
 use router_model::{RouterError, Stepped};
 use router_side::{Brought, SideDraft, SideEnd};
 use run_model::GREATEST_STAMP;
+use session_fsm::FsmEvent;
 use snap_marker::MarkState;
 use std::alloc::{AllocError, Global};
+
+/// What comes to a session and brings no message.
+#[derive(Clone, Copy)]
+pub(super) enum SessionEvent {
+    // It starts.
+    Start,
+    // It stops.
+    Stop,
+    // It stops, and starts again.
+    Reset,
+    // A second passes.
+    Second,
+}
+
+/// The draft of a side for such an event.
+pub(super) fn drafted(event: SessionEvent, end: &SideEnd, own_open: &Message) -> SideDraft
+    ensures { draft own_open.now NoMessage result ≡ draft_by event own_open.now (side end.now) }
+{
+    match event {
+        SessionEvent::Start => end.draft_event(own_open, FsmEvent::ManualStart),
+        SessionEvent::Stop => end.draft_event(own_open, FsmEvent::ManualStop),
+        SessionEvent::Reset => end.draft_reset(own_open),
+        SessionEvent::Second => end.draft_second(own_open),
+    }
+}
 
 /// The incarnation in which the session is Established, if it is.
 fn standing(end: &SideEnd) -> Option<u32>
@@ -102,21 +129,21 @@ impl Router<'_> {
         peer: Asn,
         at: usize,
         made: &SideDraft,
-        overflows: bool,
         stamp: u64,
         room: Result<(), AllocError>,
     ) -> Result<Stepped, RouterError>
         requires place { IsFound self.old.peers peer at }
-        requires fresh { overflows ≡ false
+        requires fresh { made.now.overflows ≡ false
             → KeepsFresh (sides_of self.old peer) NoMessage (draft self.old.own_open NoMessage made.now) }
-        ensures carries { Carries result self.old peer NoMessage (draft self.old.own_open NoMessage made.now) overflows
-            stamp self.new }
+        ensures carries { Carries result self.old peer NoMessage (draft self.old.own_open NoMessage made.now)
+            made.now.overflows stamp self.new }
         ensures full { NeedsRoom result room }
         ensures same { IsSame self.old self.new }
     {
         if stamp > GREATEST_STAMP {
             return Err(RouterError::StampEnd);
         }
+        let overflows = made.overflows;
         if overflows {
             return Err(RouterError::EpochEnd);
         }

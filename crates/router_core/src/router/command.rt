@@ -1,16 +1,18 @@
 //! Commands to a router.
 
 ghost use Rattle.router_model.specs.Calls.{Obey};
-ghost use Rattle.router_model.specs.declared.command.Command.TheVariants.{Start, Stop, Reset, Originate, Withdraw};
+ghost use Rattle.router_model.specs.declared.command.Command as commands;
+ghost use Rattle.router_model.specs.declared.command.Command.TheVariants.{Originate, Withdraw};
 ghost use Rattle.router_core.specs.Views.{IsSame, Answers};
 ghost use Rattle.router_core.specs.Calling.{call_of, NeedsRoom};
+ghost use Rattle.router_core.specs.ToAll.{IsCommanded};
 
+use super::carry::{SessionEvent, drafted};
 use super::{Call, Router, next_stamp_with_room};
 use prefix_lanes::Prefix;
 use ranked_policy::Asn;
 use router_model::{Command, RouterError, Stepped};
 use router_side::laws::sessions_keep_fresh;
-use session_fsm::FsmEvent;
 use std::alloc::AllocError;
 
 impl Router<'_> {
@@ -42,9 +44,9 @@ impl Router<'_> {
         ensures same { IsSame self.old self.new }
     {
         match *call {
-            Call::Obey(Command::Start(peer)) => self.start(peer, room),
-            Call::Obey(Command::Stop(peer)) => self.stop(peer, room),
-            Call::Obey(Command::Reset(peer)) => self.reset(peer, room),
+            Call::Obey(Command::Start(peer)) => self.command_peer(peer, SessionEvent::Start, room),
+            Call::Obey(Command::Stop(peer)) => self.command_peer(peer, SessionEvent::Stop, room),
+            Call::Obey(Command::Reset(peer)) => self.command_peer(peer, SessionEvent::Reset, room),
             Call::Obey(Command::Originate(prefix)) => self.originate(&prefix, room),
             Call::Obey(Command::Withdraw(prefix)) => self.withdraw(&prefix, room),
             Call::Obey(Command::Snapshot(number)) => self.snapshot(number, room),
@@ -56,9 +58,15 @@ impl Router<'_> {
         }
     }
 
-    // Starts the session with a peer.
-    fn start(&mut self, peer: Asn, room: Result<(), AllocError>) -> Result<Stepped, RouterError>
-        ensures answers { Answers result self.old (Obey (Start peer)) self.new }
+    // Obeys a command to the session with a peer.
+    fn command_peer(
+        &mut self,
+        peer: Asn,
+        event: SessionEvent,
+        room: Result<(), AllocError>,
+    ) -> Result<Stepped, RouterError>
+        ensures answers { (command : commands.Command) → IsCommanded event peer command
+            → Answers result self.old (Obey command) self.new }
         ensures full { NeedsRoom result room }
         ensures same { IsSame self.old self.new }
     {
@@ -66,43 +74,9 @@ impl Router<'_> {
         let Some(at) = self.find(peer) else {
             return Err(RouterError::NoSuchPeer);
         };
-        let made = self.peers[at]
-            .end
-            .draft_event(&self.own_open, FsmEvent::ManualStart);
-        let (overflows, stamp) = (made.overflows, self.stamp + 1);
-        self.carry_out(peer, at, &made, overflows, stamp, room)
-    }
-
-    // Stops the session with a peer.
-    fn stop(&mut self, peer: Asn, room: Result<(), AllocError>) -> Result<Stepped, RouterError>
-        ensures answers { Answers result self.old (Obey (Stop peer)) self.new }
-        ensures full { NeedsRoom result room }
-        ensures same { IsSame self.old self.new }
-    {
-        sessions_keep_fresh();
-        let Some(at) = self.find(peer) else {
-            return Err(RouterError::NoSuchPeer);
-        };
-        let made = self.peers[at]
-            .end
-            .draft_event(&self.own_open, FsmEvent::ManualStop);
+        let made = drafted(event, &self.peers[at].end, &self.own_open);
         let stamp = self.stamp + 1;
-        self.carry_out(peer, at, &made, false, stamp, room)
-    }
-
-    // Stops the session with a peer, and starts it again.
-    fn reset(&mut self, peer: Asn, room: Result<(), AllocError>) -> Result<Stepped, RouterError>
-        ensures answers { Answers result self.old (Obey (Reset peer)) self.new }
-        ensures full { NeedsRoom result room }
-        ensures same { IsSame self.old self.new }
-    {
-        sessions_keep_fresh();
-        let Some(at) = self.find(peer) else {
-            return Err(RouterError::NoSuchPeer);
-        };
-        let made = self.peers[at].end.draft_reset(&self.own_open);
-        let (overflows, stamp) = (made.overflows, self.stamp + 1);
-        self.carry_out(peer, at, &made, overflows, stamp, room)
+        self.carry_out(peer, at, &made, stamp, room)
     }
 
     // Originates a prefix from now on.

@@ -1,12 +1,10 @@
 //! What there is to do with a peer: whether its next item may be taken, whether one waits to be put towards the peer,
 //! and whether nothing is to be put or handled.
 
-ghost use Rattle.std.specs.Prelude.{ℕ, ◌≡◌, ◌&&◌, true, not, is_some, slice_get};
-ghost use Rattle.bgp_framing.specs.Held.{is_waiting};
-ghost use Rattle.outbox.specs.Items.{next_item};
+ghost use Rattle.std.specs.Prelude.{ℕ, ◌≡◌, true, Some, slice_get};
 ghost use Rattle.router_side.specs.SideOf.{side};
 ghost use Rattle.router_model.specs.Settings.{linked, peers};
-ghost use Rattle.router_core.specs.Views.{sides_of};
+ghost use Rattle.router_core.specs.Views.{sides_of, may_take, puts_nothing, link_is_idle};
 
 use super::Router;
 use ranked_policy::Asn;
@@ -16,8 +14,7 @@ impl Router<'_> {
     /// Whether an item of a peer may be taken: a link leads to the peer, and no whole message or fault of that peer
     /// waits to be handled. Where it may not, [`Router::take`] is refused.
     pub fn may_take(&self, peer: Asn) -> bool
-        ensures { result
-            ≡ (linked self.now.net self.now.number peer && not (is_waiting (sides_of self.now peer).held)) }
+        ensures { result ≡ may_take self.now peer }
     {
         match self.find(peer) {
             Some(at) => self.may_take_at(at, peer),
@@ -28,8 +25,7 @@ impl Router<'_> {
     /// Whether an item of the peer at a place may be taken, as [`Router::may_take`] says.
     pub fn may_take_at(&self, at: usize, peer: Asn) -> bool
         requires stands { slice_get (peers self.now.net self.now.number) at ≡ Some peer }
-        ensures { result
-            ≡ (linked self.now.net self.now.number peer && not (is_waiting (sides_of self.now peer).held)) }
+        ensures { result ≡ may_take self.now peer }
     {
         !self.end_at(at, peer).is_waiting()
     }
@@ -37,10 +33,7 @@ impl Router<'_> {
     /// Whether a router puts nothing towards a peer as it now is: a link leads to the peer, and no item waits in the
     /// outbox, so that [`Router::next_item`] answers `None`.
     pub fn puts_nothing(&self, peer: Asn) -> bool
-        ensures { (cut : ℕ)
-            → result
-            ≡ (linked self.now.net self.now.number peer
-            && not (is_some (next_item cut (sides_of self.now peer).outbox))) }
+        ensures { (cut : ℕ) → result ≡ puts_nothing self.now peer cut }
     {
         match self.find(peer) {
             Some(at) => self.puts_nothing_at(at, peer),
@@ -51,23 +44,16 @@ impl Router<'_> {
     /// Whether a router puts nothing towards the peer at a place, as [`Router::puts_nothing`] says.
     pub fn puts_nothing_at(&self, at: usize, peer: Asn) -> bool
         requires stands { slice_get (peers self.now.net self.now.number) at ≡ Some peer }
-        ensures { (cut : ℕ)
-            → result
-            ≡ (linked self.now.net self.now.number peer
-            && not (is_some (next_item cut (sides_of self.now peer).outbox))) }
+        ensures { (cut : ℕ) → result ≡ puts_nothing self.now peer cut }
     {
         !self.end_at(at, peer).has_item()
     }
 
-    /// Whether a router is quiet towards a peer: a link leads to the peer, no item waits in the outbox, and no whole
+    /// Whether the link to a peer is idle: a link leads to the peer, no item waits in the outbox, and no whole
     /// message or fault of the peer waits to be handled. Neither a put nor [`Router::handle`] then does anything, and
     /// an item of the peer may be taken.
     pub fn link_is_idle(&self, peer: Asn) -> bool
-        ensures { (cut : ℕ)
-            → result
-            ≡ (linked self.now.net self.now.number peer
-            && (not (is_some (next_item cut (sides_of self.now peer).outbox))
-            && not (is_waiting (sides_of self.now peer).held))) }
+        ensures { (cut : ℕ) → result ≡ link_is_idle self.now peer cut }
     {
         match self.find(peer) {
             Some(at) => self.link_is_idle_at(at, peer),
@@ -75,14 +61,10 @@ impl Router<'_> {
         }
     }
 
-    /// Whether a router is quiet towards the peer at a place, as [`Router::link_is_idle`] says.
+    /// Whether the link to the peer at a place is idle, as [`Router::link_is_idle`] says.
     pub fn link_is_idle_at(&self, at: usize, peer: Asn) -> bool
         requires stands { slice_get (peers self.now.net self.now.number) at ≡ Some peer }
-        ensures { (cut : ℕ)
-            → result
-            ≡ (linked self.now.net self.now.number peer
-            && (not (is_some (next_item cut (sides_of self.now peer).outbox))
-            && not (is_waiting (sides_of self.now peer).held))) }
+        ensures { (cut : ℕ) → result ≡ link_is_idle self.now peer cut }
     {
         self.puts_nothing_at(at, peer) && self.may_take_at(at, peer)
     }

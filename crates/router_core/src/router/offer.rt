@@ -24,7 +24,7 @@ impl Router<'_> {
         self.marks.next_offer()
     }
 
-    /// Whether it is seen without a look at a path that the router has nothing to decide, nobody to tell and nothing to
+    /// Whether it shows, without a look at any path, that the router has nothing to decide, nobody to tell and nothing to
     /// offer. `false` says nothing. It takes no memory.
     pub fn is_idle(&self) -> bool
         ensures decide { result ≡ true → Answers (Ok Nothing) self.now Decide self.now }

@@ -1,6 +1,6 @@
 //! What a router records of a snapshot (Chandy and Lamport 1985).
 
-ghost use Rattle.std.specs.Prelude.{◌≡◌, ◌&&◌, [], ◌∷◌, ◌≤◌, map, MatchResult, IfOk, OnOk, OnErr};
+ghost use Rattle.std.specs.Prelude.{◌≡◌, ◌&&◌, [], ◌∷◌, ◌≤◌, map, MatchResult, IfOk, OnOk};
 ghost use Rattle.rib_tables.specs.Words.{lists};
 ghost use Rattle.snap_marker.specs.Parts.{seen};
 ghost use Rattle.router_model.specs.declared.refusal.RouterError.TheVariants.{Memory};
@@ -10,9 +10,9 @@ ghost use Rattle.router_side.specs.SideOf.{side};
 ghost use Rattle.router_model.specs.Step.{awaits_marker};
 ghost use Rattle.router_model.specs.Calls.{Obey};
 ghost use Rattle.run_model.specs.declared.stamps.TheConstants.{GREATEST_STAMP};
-ghost use Rattle.router_core.specs.Views.{plain_of, Answers, IsFound, IsNamedAt, IsSame, TakesMark};
+ghost use Rattle.router_core.specs.Views.{Answers, IsFound, IsNamedAt, IsSame, TakesMark};
 ghost use Rattle.router_core.specs.Calling.{NeedsRoom};
-ghost use Rattle.router_core.specs.Recorded.{paths_of, own_of, channels_of, down_in, Become, HaveRoomToMark, marked_if_up, IsPart, IsPeer, IsStateOf, Records, RecordsAt};
+ghost use Rattle.router_core.specs.Recorded.{paths_of, own_of, channels_of, down_in, Become, HaveRoomToMark, marked_if_up, IsPart, IsPeer, IsStateOf, RecordsAt};
 
 use super::{Router, next_stamp_with_room};
 use crate::best_path::the_best_is_the_best_path;
@@ -193,31 +193,6 @@ fn part_now(
 }
 
 impl Router<'_> {
-    // Records the snapshot, and sends its markers. A refusal leaves the router as it was.
-    fn begin(&mut self, alloc: Global, number: u32, first: Option<Asn>) -> Result<(), AllocError>
-        requires first { IsPeer self.old.peers first }
-        ensures ok { OnOk result (Records self.old number first self.new) }
-        ensures err { OnErr result (plain_of self.new ≡ plain_of self.old) }
-        ensures stamp { self.new.stamp ≡ self.old.stamp }
-        ensures same { IsSame self.old self.new }
-    {
-        linked_routers_are_peers();
-        the_best_is_the_best_path(&self.tables);
-        let origins = self.network.origins();
-        let peers = self.peers.as_slice();
-        let tables = &self.tables;
-        let part = part_now(alloc, self.number, origins, tables, peers, number, first)?;
-        let down = first_down(self.peers.as_slice());
-        reserve_markers(&mut self.peers)?;
-        match self.marks.begin(part, down) {
-            Err(_) => Err(AllocError),
-            Ok(()) => {
-                mark_all(&mut self.peers, number);
-                Ok(())
-            }
-        }
-    }
-
     /// What the router would record of a snapshot now, as a copy: the path kept for each prefix, the prefixes that it
     /// originates, the incarnation of each link, and whether a kept path is not the route or an Established peer was
     /// not told of one. Its number is 0, which no snapshot has. Its channels are empty, and wait for their markers.
@@ -238,7 +213,8 @@ impl Router<'_> {
         Ok(part)
     }
 
-    // Records a snapshot at a stamp that is left, by a command or by the marker of a first peer.
+    // Records a snapshot at a stamp that is left, by a command or by the marker of a first peer, and sends its markers.
+    // A refusal leaves the router as it was.
     pub(super) fn records(
         &mut self,
         number: u32,
@@ -250,13 +226,27 @@ impl Router<'_> {
         ensures records { RecordsAt result self.old number first stamp self.new }
         ensures same { IsSame self.old self.new }
     {
+        linked_routers_are_peers();
+        the_best_is_the_best_path(&self.tables);
         let alloc = *self.peers.allocator();
-        match self.begin(alloc, number, first) {
+        let origins = self.network.origins();
+        let peers = self.peers.as_slice();
+        let tables = &self.tables;
+        let made = part_now(alloc, self.number, origins, tables, peers, number, first);
+        let Ok(part) = made else {
+            return Err(RouterError::Memory);
+        };
+        let down = first_down(self.peers.as_slice());
+        let Ok(()) = reserve_markers(&mut self.peers) else {
+            return Err(RouterError::Memory);
+        };
+        match self.marks.begin(part, down) {
+            Err(_) => Err(RouterError::Memory),
             Ok(()) => {
+                mark_all(&mut self.peers, number);
                 self.stamp = stamp;
                 Ok(Stepped::Did)
             }
-            Err(_) => Err(RouterError::Memory),
         }
     }
 

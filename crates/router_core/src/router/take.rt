@@ -105,7 +105,6 @@ impl Router<'_> {
     {
         what_comes_keeps_fresh();
         let made = self.peers[at].end.draft_sign(&self.own_open, sign);
-        let overflows = made.overflows;
-        self.carry_out(peer, at, &made, overflows, stamp, room)
+        self.carry_out(peer, at, &made, stamp, room)
     }
 }

@@ -2,11 +2,9 @@
 
 ghost use Rattle.bgp_values.specs.declared.width.Width as widths;
 ghost use Rattle.std.specs.Prelude.{◌≡◌, ◌<◌, ℕ, false, length, get_or, IfOk};
-ghost use Rattle.router_model.specs.Sides.{NoMessage};
 ghost use Rattle.router_model.specs.declared.command.Command.TheVariants.{Restart};
 ghost use Rattle.router_model.specs.Calls.{Tick, Obey};
 ghost use Rattle.router_side.specs.Sayings.{IsSayable};
-ghost use Rattle.router_side.specs.Drafts.{draft};
 ghost use Rattle.router_side.specs.SideOf.{side};
 ghost use Rattle.router_core.specs.declared.peers.Peer as peer;
 ghost use Rattle.router_core.specs.Views.{IsSame, Answers};
@@ -14,41 +12,21 @@ ghost use Rattle.router_core.specs.Calling.{NeedsRoom};
 ghost use Rattle.router_core.specs.Recorded.{Become};
 ghost use Rattle.router_core.specs.ToAll.{draft_by, overflow_in, IsReady, AreReady, MovesSide, MovesAll, runs_out_in, counted_down};
 
-use super::carry::{carry, close};
+use super::carry::{SessionEvent, carry, close, drafted};
 use super::{Router, next_stamp, next_stamp_with_room};
 use crate::peers::Peer;
 use bgp_codec::Message;
 use router_model::{RouterError, Stepped};
 use router_side::laws::sessions_keep_fresh;
-use router_side::{Brought, SideDraft, SideEnd};
-use session_fsm::FsmEvent;
+use router_side::{Brought, SideDraft};
 use std::alloc::{AllocError, Global};
 
-// The event that comes to each peer's side.
-#[derive(Clone, Copy)]
-pub(super) enum ToAll {
-    // A second passes.
-    Second,
-    // The session stops.
-    Stop,
-}
-
-// The draft of a side for such an event.
-fn drafted(whole: ToAll, end: &SideEnd, own_open: &Message) -> SideDraft
-    ensures { draft own_open.now NoMessage result ≡ draft_by whole own_open.now (side end.now) }
-{
-    match whole {
-        ToAll::Second => end.draft_second(own_open),
-        ToAll::Stop => end.draft_event(own_open, FsmEvent::ManualStop),
-    }
-}
-
 // Whether a dial of some side would pass the greatest incarnation.
-pub(super) fn overflows(whole: ToAll, peers: &[Peer], own_open: &Message) -> bool
-    ensures { result ≡ overflow_in (draft_by whole own_open.now) peers.now }
+pub(super) fn overflows(event: SessionEvent, peers: &[Peer], own_open: &Message) -> bool
+    ensures { result ≡ overflow_in (draft_by event own_open.now) peers.now }
 {
     for peer in peers {
-        if drafted(whole, &peer.end, own_open).overflows {
+        if drafted(event, &peer.end, own_open).overflows {
             return true;
         }
     }
@@ -58,17 +36,17 @@ pub(super) fn overflows(whole: ToAll, peers: &[Peer], own_open: &Message) -> boo
 // The drafts of these sides, with room for each. A refusal leaves the sides as they were.
 fn prepare_each(
     alloc: Global,
-    whole: ToAll,
+    event: SessionEvent,
     peers: &mut [Peer],
     own_open: &Message,
 ) -> Result<Vec<SideDraft>, AllocError>
     requires { (w : widths.Width) → IsSayable w own_open.now }
     ensures same { Become (λ s. s) peers.old peers.new }
-    ensures ready { IfOk result (λ made. AreReady own_open.now (draft_by whole own_open.now) peers.new made.items) }
+    ensures ready { IfOk result (λ made. AreReady own_open.now (draft_by event own_open.now) peers.new made.items) }
 {
     let mut drafts = Vec::new(alloc);
     for peer in peers.iter_mut() {
-        let made = drafted(whole, &peer.end, own_open);
+        let made = drafted(event, &peer.end, own_open);
         peer.end.reserve(own_open, &Brought::Nothing, &made)?;
         drafts.push(made)?;
     }
@@ -78,16 +56,16 @@ fn prepare_each(
 // Drafts the sides of all peers, with room for each. A refusal leaves the sides as they were.
 fn prepare(
     alloc: Global,
-    whole: ToAll,
+    event: SessionEvent,
     peers: &mut Vec<Peer>,
     own_open: &Message,
 ) -> Result<Vec<SideDraft>, AllocError>
     requires { (w : widths.Width) → IsSayable w own_open.now }
     ensures same { Become (λ s. s) peers.old.items peers.new.items }
     ensures ready { IfOk result
-        (λ made. AreReady own_open.now (draft_by whole own_open.now) peers.new.items made.items) }
+        (λ made. AreReady own_open.now (draft_by event own_open.now) peers.new.items made.items) }
 {
-    prepare_each(alloc, whole, peers.as_mut_slice(), own_open)
+    prepare_each(alloc, event, peers.as_mut_slice(), own_open)
 }
 
 // Whether a timer of some session runs out in the next second.
@@ -120,13 +98,13 @@ fn count_down_all(peers: &mut Vec<Peer>)
 
 impl Router<'_> {
     // Carries out the draft of the side at a place, for which there is room. The stamp stays.
-    fn move_side(&mut self, whole: ToAll, at: usize, made: &SideDraft)
+    fn move_side(&mut self, event: SessionEvent, at: usize, made: &SideDraft)
         requires below { at < length self.old.peers }
         requires ready { (d : peer.Peer)
-            → IsReady self.old.own_open (draft_by whole self.old.own_open) (get_or self.old.peers at d) made.now }
+            → IsReady self.old.own_open (draft_by event self.old.own_open) (get_or self.old.peers at d) made.now }
         requires fits { (d : peer.Peer)
-            → (draft_by whole self.old.own_open (side (get_or self.old.peers at d).end)).overflows ≡ false }
-        ensures { MovesSide self.old at (draft_by whole self.old.own_open) self.new }
+            → (draft_by event self.old.own_open (side (get_or self.old.peers at d).end)).overflows ≡ false }
+        ensures { MovesSide self.old at (draft_by event self.old.own_open) self.new }
     {
         sessions_keep_fresh();
         let alloc = *self.peers.allocator();
@@ -137,13 +115,13 @@ impl Router<'_> {
     }
 
     // Carries out the drafts of all sides, peers rising.
-    fn move_all(&mut self, whole: ToAll, made: &[SideDraft])
-        requires ready { AreReady self.old.own_open (draft_by whole self.old.own_open) self.old.peers made.now }
-        requires fits { overflow_in (draft_by whole self.old.own_open) self.old.peers ≡ false }
-        ensures { MovesAll self.old (draft_by whole self.old.own_open) self.new }
+    fn move_all(&mut self, event: SessionEvent, made: &[SideDraft])
+        requires ready { AreReady self.old.own_open (draft_by event self.old.own_open) self.old.peers made.now }
+        requires fits { overflow_in (draft_by event self.old.own_open) self.old.peers ≡ false }
+        ensures { MovesAll self.old (draft_by event self.old.own_open) self.new }
     {
         for at in 0..made.len() {
-            self.move_side(whole, at, &made[at]);
+            self.move_side(event, at, &made[at]);
         }
     }
 
@@ -196,15 +174,15 @@ impl Router<'_> {
         ensures same { IsSame self.old self.new }
     {
         let stamp = next_stamp(self.stamp)?;
-        if overflows(ToAll::Second, self.peers.as_slice(), &self.own_open) {
+        if overflows(SessionEvent::Second, self.peers.as_slice(), &self.own_open) {
             return Err(RouterError::EpochEnd);
         }
         room?;
         let alloc = *self.peers.allocator();
-        let Ok(made) = prepare(alloc, ToAll::Second, &mut self.peers, &self.own_open) else {
+        let Ok(made) = prepare(alloc, SessionEvent::Second, &mut self.peers, &self.own_open) else {
             return Err(RouterError::Memory);
         };
-        self.move_all(ToAll::Second, made.as_slice());
+        self.move_all(SessionEvent::Second, made.as_slice());
         self.stamp = stamp;
         Ok(Stepped::Did)
     }
@@ -217,10 +195,10 @@ impl Router<'_> {
     {
         let stamp = next_stamp_with_room(self.stamp, room)?;
         let alloc = *self.peers.allocator();
-        let Ok(made) = prepare(alloc, ToAll::Stop, &mut self.peers, &self.own_open) else {
+        let Ok(made) = prepare(alloc, SessionEvent::Stop, &mut self.peers, &self.own_open) else {
             return Err(RouterError::Memory);
         };
-        self.move_all(ToAll::Stop, made.as_slice());
+        self.move_all(SessionEvent::Stop, made.as_slice());
         self.tables.clear();
         self.stamp = stamp;
         Ok(Stepped::Did)

@@ -12,7 +12,7 @@ use Rattle.router_side.specs.Drafts.{draft}
 use Rattle.router_side.specs.Freshness.{KeepsFresh}
 use Rattle.router_side.specs.SideOf.{side}
 use Rattle.router_core.specs.declared.peers.Peer.{Peer}
-use Rattle.router_core.specs.Views.{RouterView, IsFound, Carries, sides_of, plain_of}
+use Rattle.router_core.specs.Views.{view_of, RouterView, IsFound, Carries, sides_of, plain_of}
 use Rattle.router_core.specs.Following.{Followed, standing}
 use Rattle.router_core.proofs.Beginnings.{linked_to}
 use Rattle.router_core.proofs.Carrying.{Changes, with_peer, stays, kept, moves, tracks_alike, tracks_moved, records_same, nothing_seen, ends_did, ends_memory}
@@ -29,13 +29,13 @@ returns-in_err-room-clause-carries c =
     let x = c.args.self.now in
     let early : nat_lt GREATEST_STAMP c.args.stamp ≡ false = grind (arith, nat_tests, c.if-stamp-gt-GREATEST_STAMP.false) in
     rw (p.1, p.2)
-    (ends_memory (nat_lt GREATEST_STAMP c.args.stamp) c.args.overflows (plain_of x) (record { router = moved (plain_of x).router c.args.peer NoMessage (draft x.own_open NoMessage c.args.made.now); stamp = c.args.stamp })
+    (ends_memory (nat_lt GREATEST_STAMP c.args.stamp) c.args.made.now.overflows (plain_of x) (record { router = moved (plain_of x).router c.args.peer NoMessage (draft x.own_open NoMessage c.args.made.now); stamp = c.args.stamp })
     (plain_of x) early c.if-overflows.false refl)
 
 -- memory was wanting: the peer is as it was
 pub invariant_of-self : goal.invariant_of-self
 invariant_of-self c =
-    let r : RouterView = record { net = c.self.inside.network.now; number = c.self.inside.number; own_open = c.self.inside.own_open; peers = c.self.inside.peers.items; tables = c.self.inside.tables; marks = c.self.inside.marks; stamp = c.self.inside.stamp } in
+    let r = view_of c.self.inside in
     let v = c.args.peer in
     let p = c.index_mut.result.now in
     let q : Peer = record { number = p.number; end = c.reserve.new.self } in
@@ -47,21 +47,21 @@ invariant_of-self c =
 
 pub returns-then-is_err-clause-carries : goal.returns-then-is_err-clause-carries
 returns-then-is_err-clause-carries c =
-    let r : RouterView = record { net = c.self.inside.network.now; number = c.self.inside.number; own_open = c.self.inside.own_open; peers = c.self.inside.peers.items; tables = c.self.inside.tables; marks = c.self.inside.marks; stamp = c.self.inside.stamp } in
+    let r = view_of c.self.inside in
     let v = c.args.peer in
     let p = c.index_mut.result.now in
     let q : Peer = record { number = p.number; end = c.reserve.new.self } in
     let place = subst (λ (x : RouterView). IsFound x.peers v c.args.at) (sym c.self.view_is) c.requires.place in
     let ch : Changes r v c.args.at p q = record { place = place.2; here = c.index_mut.ensures.value; number = refl } in
     let early : nat_lt GREATEST_STAMP c.args.stamp ≡ false = grind (arith, nat_tests, c.if-stamp-gt-GREATEST_STAMP.false) in
-    subst (λ (x : RouterView). Carries (Err Memory) x v NoMessage (draft x.own_open NoMessage c.args.made.now) c.args.overflows c.args.stamp (with_peer r c.args.at q r.tables r.marks r.stamp)) c.self.view_is
-    (ends_memory (nat_lt GREATEST_STAMP c.args.stamp) c.args.overflows (plain_of r) (record { router = moved (plain_of r).router v NoMessage (draft r.own_open NoMessage c.args.made.now); stamp = c.args.stamp })
+    subst (λ (x : RouterView). Carries (Err Memory) x v NoMessage (draft x.own_open NoMessage c.args.made.now) c.args.made.now.overflows c.args.stamp (with_peer r c.args.at q r.tables r.marks r.stamp)) c.self.view_is
+    (ends_memory (nat_lt GREATEST_STAMP c.args.stamp) c.args.made.now.overflows (plain_of r) (record { router = moved (plain_of r).router v NoMessage (draft r.own_open NoMessage c.args.made.now); stamp = c.args.stamp })
     (plain_of (with_peer r c.args.at q r.tables r.marks r.stamp)) early c.if-overflows.false (kept r v c.args.at p q ch r.marks c.reserve.ensures.side refl))
 
 -- it is carried out
 pub carry-requires-clause-linked : goal.carry-requires-clause-linked
 carry-requires-clause-linked c =
-    let r : RouterView = record { net = c.self.inside.network.now; number = c.self.inside.number; own_open = c.self.inside.own_open; peers = c.self.inside.peers.items; tables = c.self.inside.tables; marks = c.self.inside.marks; stamp = c.self.inside.stamp } in
+    let r = view_of c.self.inside in
     let v = c.args.peer in
     let place = subst (λ (x : RouterView). IsFound x.peers v c.args.at) (sym c.self.view_is) c.requires.place in
     let t = c.self.invariant.tabled in
@@ -69,7 +69,7 @@ carry-requires-clause-linked c =
 
 pub invariant_of-self-2 : goal.invariant_of-self-2
 invariant_of-self-2 c =
-    let r : RouterView = record { net = c.self.inside.network.now; number = c.self.inside.number; own_open = c.self.inside.own_open; peers = c.self.inside.peers.items; tables = c.self.inside.tables; marks = c.self.inside.marks; stamp = c.self.inside.stamp } in
+    let r = view_of c.self.inside in
     let v = c.args.peer in
     let p = c.index_mut.result.now in
     let q : Peer = record { number = p.number; end = c.carry.new.end } in
@@ -85,7 +85,7 @@ invariant_of-self-2 c =
 
 pub returns-clause-carries : goal.returns-clause-carries
 returns-clause-carries c =
-    let r : RouterView = record { net = c.self.inside.network.now; number = c.self.inside.number; own_open = c.self.inside.own_open; peers = c.self.inside.peers.items; tables = c.self.inside.tables; marks = c.self.inside.marks; stamp = c.self.inside.stamp } in
+    let r = view_of c.self.inside in
     let v = c.args.peer in
     let p = c.index_mut.result.now in
     let q : Peer = record { number = p.number; end = c.carry.new.end } in
@@ -95,7 +95,7 @@ returns-clause-carries c =
     let is = c.carry.ensures.side ∙ ap (λ (s : Side). carried NoMessage s a) c.reserve.ensures.side in
     let on = leaves r.tables c.carry.new.tables v (standing (side c.reserve.new.self)) (standing (side c.carry.new.end)) c.carry.ensures.tables in
     let early : nat_lt GREATEST_STAMP c.args.stamp ≡ false = grind (arith, nat_tests, c.if-stamp-gt-GREATEST_STAMP.false) in
-    subst (λ (x : RouterView). Carries (Ok Did) x v NoMessage (draft x.own_open NoMessage c.args.made.now) c.args.overflows c.args.stamp (with_peer r c.args.at q c.carry.new.tables c.close.new.marks c.args.stamp)) c.self.view_is
-    (ends_did (nat_lt GREATEST_STAMP c.args.stamp) c.args.overflows (plain_of r) (record { router = moved (plain_of r).router v NoMessage a; stamp = c.args.stamp })
+    subst (λ (x : RouterView). Carries (Ok Did) x v NoMessage (draft x.own_open NoMessage c.args.made.now) c.args.made.now.overflows c.args.stamp (with_peer r c.args.at q c.carry.new.tables c.close.new.marks c.args.stamp)) c.self.view_is
+    (ends_did (nat_lt GREATEST_STAMP c.args.stamp) c.args.made.now.overflows (plain_of r) (record { router = moved (plain_of r).router v NoMessage a; stamp = c.args.stamp })
     (plain_of (with_peer r c.args.at q c.carry.new.tables c.close.new.marks c.args.stamp)) early c.if-overflows.false
     (moves r v c.args.at p q ch c.carry.new.tables c.close.new.marks c.args.stamp NoMessage a is on (nothing_seen a.acts v _ (snapshots_of c.close.new.marks) c.close.ensures.closed)))

@@ -6,7 +6,7 @@ use Rattle.router_model.specs.declared.refusal.Stepped.TheVariants as stepped
 use Rattle.router_model.specs.Sides.{draft_second}
 use Rattle.router_model.specs.Calls.{Tick}
 use Rattle.run_model.specs.declared.stamps.TheConstants.{GREATEST_STAMP}
-use Rattle.router_core.specs.Views.{RouterView, Answers, Ends, plain_of}
+use Rattle.router_core.specs.Views.{view_of, RouterView, Answers, Ends, plain_of}
 use Rattle.router_core.specs.Calling.{no_step}
 use Rattle.router_core.specs.ToAll.{overflow_in, runs_out_in}
 use Rattle.router_core.proofs.NoStep.{ends_no_step}
@@ -19,7 +19,7 @@ use Rattle.router_core.proofs.router.Router.count_down.Goals as goal
 pub returns-in_err-stamp-clause-answers : goal.returns-in_err-stamp-clause-answers
 returns-in_err-stamp-clause-answers c =
     let p = err_from_is_err_and c.from_residual.result c.from_residual.ensures.1 in
-    let r : RouterView = record { net = c.self.inside.network.now; number = c.self.inside.number; own_open = c.self.inside.own_open; peers = c.self.inside.peers.items; tables = c.self.inside.tables; marks = c.self.inside.marks; stamp = c.self.inside.stamp } in
+    let r = view_of c.self.inside in
     let rests = subst (λ (x : RouterView). runs_out_in x.peers ≡ false) (sym c.self.view_is) c.requires in
     rw (p.1, p.2, c.in_err-stamp.ensures.refused)
     (subst (λ (x : RouterView). Answers (Err (no_step r.stamp)) x Tick x) c.self.view_is (λ g e ranks.
@@ -29,14 +29,14 @@ returns-in_err-stamp-clause-answers c =
 
 pub invariant_of-self : goal.invariant_of-self
 invariant_of-self c =
-    let r : RouterView = record { net = c.self.inside.network.now; number = c.self.inside.number; own_open = c.self.inside.own_open; peers = c.self.inside.peers.items; tables = c.self.inside.tables; marks = c.self.inside.marks; stamp = c.self.inside.stamp } in
+    let r = view_of c.self.inside in
     let few : r.stamp + 1 ≤ GREATEST_STAMP = grind (arith, nat_tests, c.in_ok-stamp.ensures.next.1) in
     rw c.in_ok-stamp.ensures.next.0
     (counted_sound r c.count_down_all.new.peers.items (r.stamp + 1) c.self.invariant few c.count_down_all.ensures)
 
 pub returns-clause-answers : goal.returns-clause-answers
 returns-clause-answers c =
-    let r : RouterView = record { net = c.self.inside.network.now; number = c.self.inside.number; own_open = c.self.inside.own_open; peers = c.self.inside.peers.items; tables = c.self.inside.tables; marks = c.self.inside.marks; stamp = c.self.inside.stamp } in
+    let r = view_of c.self.inside in
     let rests = subst (λ (x : RouterView). runs_out_in x.peers ≡ false) (sym c.self.view_is) c.requires in
     let early : nat_lt GREATEST_STAMP (r.stamp + 1) ≡ false = c.in_ok-stamp.ensures.next.1 in
     let qs = c.count_down_all.new.peers.items in

@@ -8,7 +8,7 @@ use Rattle.router_model.specs.declared.refusal.RouterError.TheVariants as error
 use Rattle.router_model.specs.declared.refusal.Stepped.TheVariants as stepped
 use Rattle.router_model.specs.Calls.{Decide}
 use Rattle.run_model.specs.declared.stamps.TheConstants.{GREATEST_STAMP}
-use Rattle.router_core.specs.Views.{RouterView, Answers}
+use Rattle.router_core.specs.Views.{view_of, RouterView, Answers}
 use Rattle.router_core.specs.Calling.{no_step}
 use Rattle.router_core.proofs.Originations.{with_tables}
 use Rattle.router_core.proofs.Deciding.{decided_all, no_step_to_decide, no_memory_to_decide, decides, sound_deciding}
@@ -16,14 +16,14 @@ use Rattle.router_core.proofs.router.Router.decide_with_room.Goals as goal
 
 pub returns-in_default-clause-answers : goal.returns-in_default-clause-answers
 returns-in_default-clause-answers c =
-    let r : RouterView = record { net = c.self.inside.network.now; number = c.self.inside.number; own_open = c.self.inside.own_open; peers = c.self.inside.peers.items; tables = c.self.inside.tables; marks = c.self.inside.marks; stamp = c.self.inside.stamp } in
+    let r = view_of c.self.inside in
     let laws = c.the_best_is_the_best_path.ensures in
     subst (λ (x : RouterView). Answers (Ok stepped.Nothing) x Decide x) c.self.view_is (λ g e ranks.
     decided_all laws.over laws.one g r (record { sound = c.self.invariant; net = e; ranks = ranks; linked = laws.linked }) c.in_default.ensures)
 
 pub returns-in-Err-clause-answers : goal.returns-in-Err-clause-answers
 returns-in-Err-clause-answers c =
-    let r : RouterView = record { net = c.self.inside.network.now; number = c.self.inside.number; own_open = c.self.inside.own_open; peers = c.self.inside.peers.items; tables = c.self.inside.tables; marks = c.self.inside.marks; stamp = c.self.inside.stamp } in
+    let r = view_of c.self.inside in
     let laws = c.the_best_is_the_best_path.ensures in
     rw c.in-Err.ensures.refused
     (subst (λ (x : RouterView). Answers (Err (no_step r.stamp)) x Decide x) c.self.view_is (λ g e ranks.
@@ -31,7 +31,7 @@ returns-in-Err-clause-answers c =
 
 pub invariant_of-self : goal.invariant_of-self
 invariant_of-self c =
-    let r : RouterView = record { net = c.self.inside.network.now; number = c.self.inside.number; own_open = c.self.inside.own_open; peers = c.self.inside.peers.items; tables = c.self.inside.tables; marks = c.self.inside.marks; stamp = c.self.inside.stamp } in
+    let r = view_of c.self.inside in
     let t = c.decide.new.self in
     let few : r.stamp + 1 ≤ GREATEST_STAMP = grind (arith, nat_tests, c.in-Ok.ensures.next.1) in
     let least = subst (λ (o : Option PrefixView). MatchOption o (HoldsOfAll r.tables.net.origins (IsSettled r.tables)) (IsLeastWithout r.tables.net.origins (IsSettled r.tables))) c.in-Ok-Some.field-0-is c.in-Ok-Some.ensures.least in
@@ -40,7 +40,7 @@ invariant_of-self c =
 
 pub returns-in-Ok-Some-clause-answers : goal.returns-in-Ok-Some-clause-answers
 returns-in-Ok-Some-clause-answers c =
-    let r : RouterView = record { net = c.self.inside.network.now; number = c.self.inside.number; own_open = c.self.inside.own_open; peers = c.self.inside.peers.items; tables = c.self.inside.tables; marks = c.self.inside.marks; stamp = c.self.inside.stamp } in
+    let r = view_of c.self.inside in
     let laws = c.the_best_is_the_best_path.ensures in
     let t = c.decide.new.self in
     let least = subst (λ (o : Option PrefixView). MatchOption o (HoldsOfAll r.tables.net.origins (IsSettled r.tables)) (IsLeastWithout r.tables.net.origins (IsSettled r.tables))) c.in-Ok-Some.field-0-is c.in-Ok-Some.ensures.least in
@@ -51,7 +51,7 @@ returns-in-Ok-Some-clause-answers c =
 
 pub returns-in-Ok-None-clause-answers : goal.returns-in-Ok-None-clause-answers
 returns-in-Ok-None-clause-answers c =
-    let r : RouterView = record { net = c.self.inside.network.now; number = c.self.inside.number; own_open = c.self.inside.own_open; peers = c.self.inside.peers.items; tables = c.self.inside.tables; marks = c.self.inside.marks; stamp = c.self.inside.stamp } in
+    let r = view_of c.self.inside in
     let laws = c.the_best_is_the_best_path.ensures in
     let t = c.decide.new.self in
     let least = subst (λ (o : Option PrefixView). MatchOption o (HoldsOfAll r.tables.net.origins (IsSettled r.tables)) (IsLeastWithout r.tables.net.origins (IsSettled r.tables))) c.in-Ok-None.field-0-is c.in-Ok-None.ensures.least in
@@ -62,7 +62,7 @@ returns-in-Ok-None-clause-answers c =
 
 pub returns-in-Err-decide-clause-answers : goal.returns-in-Err-decide-clause-answers
 returns-in-Err-decide-clause-answers c =
-    let r : RouterView = record { net = c.self.inside.network.now; number = c.self.inside.number; own_open = c.self.inside.own_open; peers = c.self.inside.peers.items; tables = c.self.inside.tables; marks = c.self.inside.marks; stamp = c.self.inside.stamp } in
+    let r = view_of c.self.inside in
     let laws = c.the_best_is_the_best_path.ensures in
     let pending = c.in-Err-decide.ensures.pending in
     rw c.in-Err-decide.ensures.err

@@ -2,7 +2,7 @@ use Rattle.std.proofs.Common.{ap, ◌∙◌, subst}
 use Rattle.std.specs.Prelude.{MatchOption, IfSome, Some, true, false, ◌≡◌, slice_get}
 use Rattle.std.specs.List.{position}
 use Rattle.router_model.specs.Settings.{linked, peers}
-use Rattle.router_core.specs.Views.{RouterView, is_number, listed, IsFound}
+use Rattle.router_core.specs.Views.{view_of, RouterView, is_number, listed, IsFound}
 use Rattle.router_core.proofs.PeerLemmas.{found_at, found_linked}
 use Rattle.router_core.proofs.Places.{found_stands}
 use Rattle.router_core.proofs.router.Router.find.Goals as goal
@@ -20,6 +20,6 @@ returns-clause-none c =
 
 pub returns-clause-stands : goal.returns-clause-stands
 returns-clause-stands c =
-    let r : RouterView = record { net = c.self.inside.network.now; number = c.self.inside.number; own_open = c.self.inside.own_open; peers = c.self.inside.peers.items; tables = c.self.inside.tables; marks = c.self.inside.marks; stamp = c.self.inside.stamp } in
+    let r = view_of c.self.inside in
     subst (λ (x : RouterView). IfSome c.place_of.result (λ at. slice_get (peers x.net x.number) at ≡ Some c.args.peer)) c.self.view_is
     (found_stands r c.args.peer c.place_of.result c.self.invariant (found_at r.peers c.args.peer c.place_of.result (c.place_of.ensures ∙ ap (position (is_number c.args.peer)) c.as_slice.ensures.value)))

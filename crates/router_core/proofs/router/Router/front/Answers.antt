@@ -6,21 +6,21 @@ use Rattle.bgp_framing.specs.Held.{is_waiting}
 use Rattle.ranked_policy.specs.declared.network.Settings.{Settings}
 use Rattle.router_model.specs.Sides.{Side, front}
 use Rattle.router_side.specs.SideOf.{side, naming}
-use Rattle.router_core.specs.Views.{RouterView, sides_of}
+use Rattle.router_core.specs.Views.{view_of, RouterView, sides_of}
 use Rattle.router_core.specs.Shown.{front_of}
 use Rattle.router_core.proofs.Showing.{stands}
 use Rattle.router_core.proofs.router.Router.front.Goals as goal
 
 pub returns-then-not-is_waiting : goal.returns-then-not-is_waiting
 returns-then-not-is_waiting c =
-    let r : RouterView = record { net = c.self.inside.network.now; number = c.self.inside.number; own_open = c.self.inside.own_open; peers = c.self.inside.peers.items; tables = c.self.inside.tables; marks = c.self.inside.marks; stamp = c.self.inside.stamp } in
+    let r = view_of c.self.inside in
     let here : sides_of c.args.self.now c.args.peer ≡ side c.index.result.now.end = stands r c.args.self.now c.args.peer c.in_ok-at.at c.index.result.now c.self.view_is c.in_ok-at.ensures.place c.index.ensures in
     let waits : is_waiting (sides_of c.args.self.now c.args.peer).held ≡ false = ap (λ (s : Side). is_waiting s.held) here ∙ sym c.is_waiting.ensures ∙ c.if-not-is_waiting.true in
     rw (c.in_ok-at.ensures.none, waits) refl
 
 pub returns : goal.returns
 returns c =
-    let r : RouterView = record { net = c.self.inside.network.now; number = c.self.inside.number; own_open = c.self.inside.own_open; peers = c.self.inside.peers.items; tables = c.self.inside.tables; marks = c.self.inside.marks; stamp = c.self.inside.stamp } in
+    let r = view_of c.self.inside in
     let x = c.args.self.now in
     let v = c.args.peer in
     let end = c.index.result.now.end in

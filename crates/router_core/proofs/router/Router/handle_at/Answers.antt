@@ -11,7 +11,7 @@ use Rattle.router_model.specs.Calls.{Handle}
 use Rattle.run_model.specs.declared.stamps.TheConstants.{GREATEST_STAMP}
 use Rattle.router_side.specs.SideOf.{side, naming}
 use Rattle.router_core.specs.declared.peers.Peer.{Peer}
-use Rattle.router_core.specs.Views.{RouterView, IsFound, Answers, plain_of}
+use Rattle.router_core.specs.Views.{view_of, RouterView, IsFound, Answers, plain_of}
 use Rattle.router_core.specs.Handling.{HandlesFront}
 use Rattle.router_core.specs.Calling.{no_step}
 use Rattle.router_core.proofs.PeerLemmas.{here_same}
@@ -31,7 +31,7 @@ use Rattle.router_core.proofs.router.Router.handle_at.Goals as goal
 
 pub returns-then-not-is_waiting-clause-answers : goal.returns-then-not-is_waiting-clause-answers
 returns-then-not-is_waiting-clause-answers c =
-    let r : RouterView = record { net = c.self.inside.network.now; number = c.self.inside.number; own_open = c.self.inside.own_open; peers = c.self.inside.peers.items; tables = c.self.inside.tables; marks = c.self.inside.marks; stamp = c.self.inside.stamp } in
+    let r = view_of c.self.inside in
     let found = subst (λ (x : RouterView). IsFound x.peers c.args.peer c.args.at) (sym c.self.view_is) c.peer_stands_at.ensures.found in
     subst (λ (x : RouterView). Answers (Ok stepped.Nothing) x (Handle c.args.peer) x) c.self.view_is (λ g e ranks.
     hands_nothing g r c.args.peer c.args.at c.index.result.now (of_sound g r c.self.invariant e) found.2 c.index.ensures found.1 (sym c.is_waiting.ensures ∙ c.if-not-is_waiting.true))
@@ -39,7 +39,7 @@ returns-then-not-is_waiting-clause-answers c =
 pub returns-in_err-stamp-clause-answers : goal.returns-in_err-stamp-clause-answers
 returns-in_err-stamp-clause-answers c =
     let p = err_from_is_err_and c.from_residual.result c.from_residual.ensures.1 in
-    let r : RouterView = record { net = c.self.inside.network.now; number = c.self.inside.number; own_open = c.self.inside.own_open; peers = c.self.inside.peers.items; tables = c.self.inside.tables; marks = c.self.inside.marks; stamp = c.self.inside.stamp } in
+    let r = view_of c.self.inside in
     let found = subst (λ (x : RouterView). IsFound x.peers c.args.peer c.args.at) (sym c.self.view_is) c.peer_stands_at.ensures.found in
     rw (p.1, p.2, c.in_err-stamp.ensures.refused)
     (subst (λ (x : RouterView). Answers (Err (no_step r.stamp)) x (Handle c.args.peer) x) c.self.view_is (λ g e ranks.
@@ -48,13 +48,13 @@ returns-in_err-stamp-clause-answers c =
 -- the peer stands there among the peers of the tables
 pub handle_front-requires-clause-stands : goal.handle_front-requires-clause-stands
 handle_front-requires-clause-stands c =
-    let r : RouterView = record { net = c.self.inside.network.now; number = c.self.inside.number; own_open = c.self.inside.own_open; peers = c.self.inside.peers.items; tables = c.self.inside.tables; marks = c.self.inside.marks; stamp = c.self.inside.stamp } in
+    let r = view_of c.self.inside in
     told_here r c.args.peer c.args.at c.self.invariant (subst (λ (x : RouterView). slice_get (peers x.net x.number) c.args.at ≡ Some c.args.peer) (sym c.self.view_is) c.requires.stands)
 
 -- the peer is linked, and what is recorded has its link
 pub handle_front-requires-clause-linked : goal.handle_front-requires-clause-linked
 handle_front-requires-clause-linked c =
-    let r : RouterView = record { net = c.self.inside.network.now; number = c.self.inside.number; own_open = c.self.inside.own_open; peers = c.self.inside.peers.items; tables = c.self.inside.tables; marks = c.self.inside.marks; stamp = c.self.inside.stamp } in
+    let r = view_of c.self.inside in
     let v = c.args.peer in
     let found = subst (λ (x : RouterView). IsFound x.peers c.args.peer c.args.at) (sym c.self.view_is) c.peer_stands_at.ensures.found in
     let t = c.self.invariant.tabled in
@@ -62,7 +62,7 @@ handle_front-requires-clause-linked c =
 
 pub handle_front-requires-clause-link : goal.handle_front-requires-clause-link
 handle_front-requires-clause-link c =
-    let r : RouterView = record { net = c.self.inside.network.now; number = c.self.inside.number; own_open = c.self.inside.own_open; peers = c.self.inside.peers.items; tables = c.self.inside.tables; marks = c.self.inside.marks; stamp = c.self.inside.stamp } in
+    let r = view_of c.self.inside in
     let v = c.args.peer in
     let found = subst (λ (x : RouterView). IsFound x.peers c.args.peer c.args.at) (sym c.self.view_is) c.peer_stands_at.ensures.found in
     link_of r.marks.unfinished v r.peers (peers r.net r.number) c.self.invariant.numbers c.self.invariant.marked.over found.1
@@ -70,7 +70,7 @@ handle_front-requires-clause-link c =
 -- what the peer says is read at the width of its side
 pub handle_front-requires-clause-rule : goal.handle_front-requires-clause-rule
 handle_front-requires-clause-rule c =
-    let r : RouterView = record { net = c.self.inside.network.now; number = c.self.inside.number; own_open = c.self.inside.own_open; peers = c.self.inside.peers.items; tables = c.self.inside.tables; marks = c.self.inside.marks; stamp = c.self.inside.stamp } in
+    let r = view_of c.self.inside in
     let v = c.args.peer in
     let found = subst (λ (x : RouterView). IsFound x.peers c.args.peer c.args.at) (sym c.self.view_is) c.peer_stands_at.ensures.found in
     let p = c.index_mut.result.now in
@@ -81,7 +81,7 @@ handle_front-requires-clause-rule c =
 -- it is handled
 pub invariant_of-self : goal.invariant_of-self
 invariant_of-self c =
-    let r : RouterView = record { net = c.self.inside.network.now; number = c.self.inside.number; own_open = c.self.inside.own_open; peers = c.self.inside.peers.items; tables = c.self.inside.tables; marks = c.self.inside.marks; stamp = c.self.inside.stamp } in
+    let r = view_of c.self.inside in
     let v = c.args.peer in
     let found = subst (λ (x : RouterView). IsFound x.peers c.args.peer c.args.at) (sym c.self.view_is) c.peer_stands_at.ensures.found in
     let p = c.index_mut.result.now in
@@ -98,7 +98,7 @@ invariant_of-self c =
 
 pub returns-in-Ok-clause-answers : goal.returns-in-Ok-clause-answers
 returns-in-Ok-clause-answers c =
-    let r : RouterView = record { net = c.self.inside.network.now; number = c.self.inside.number; own_open = c.self.inside.own_open; peers = c.self.inside.peers.items; tables = c.self.inside.tables; marks = c.self.inside.marks; stamp = c.self.inside.stamp } in
+    let r = view_of c.self.inside in
     let v = c.args.peer in
     let found = subst (λ (x : RouterView). IsFound x.peers c.args.peer c.args.at) (sym c.self.view_is) c.peer_stands_at.ensures.found in
     let p = c.index_mut.result.now in
@@ -119,7 +119,7 @@ returns-in-Ok-clause-answers c =
 -- memory was wanting: all is as it was
 pub invariant_of-self-in-Err : goal.invariant_of-self-in-Err
 invariant_of-self-in-Err c =
-    let r : RouterView = record { net = c.self.inside.network.now; number = c.self.inside.number; own_open = c.self.inside.own_open; peers = c.self.inside.peers.items; tables = c.self.inside.tables; marks = c.self.inside.marks; stamp = c.self.inside.stamp } in
+    let r = view_of c.self.inside in
     let v = c.args.peer in
     let found = subst (λ (x : RouterView). IsFound x.peers c.args.peer c.args.at) (sym c.self.view_is) c.peer_stands_at.ensures.found in
     let p = c.index_mut.result.now in
@@ -134,7 +134,7 @@ invariant_of-self-in-Err c =
 
 pub returns-in-Err-clause-answers : goal.returns-in-Err-clause-answers
 returns-in-Err-clause-answers c =
-    let r : RouterView = record { net = c.self.inside.network.now; number = c.self.inside.number; own_open = c.self.inside.own_open; peers = c.self.inside.peers.items; tables = c.self.inside.tables; marks = c.self.inside.marks; stamp = c.self.inside.stamp } in
+    let r = view_of c.self.inside in
     let v = c.args.peer in
     let found = subst (λ (x : RouterView). IsFound x.peers c.args.peer c.args.at) (sym c.self.view_is) c.peer_stands_at.ensures.found in
     let p = c.index_mut.result.now in

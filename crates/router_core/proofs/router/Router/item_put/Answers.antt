@@ -1,12 +1,12 @@
 use Rattle.std.proofs.Common.{◌∙◌, ap, sym, subst}
-use Rattle.router_core.specs.Views.{RouterView, listed, HasNext}
+use Rattle.router_core.specs.Views.{view_of, RouterView, listed, HasNext}
 use Rattle.router_core.proofs.PeerLemmas.{found_some}
 use Rattle.router_core.proofs.Serving.{has_next}
 use Rattle.router_core.proofs.router.Router.item_put.Goals as goal
 
 pub unwrap-at-requires : goal.unwrap-at-requires
 unwrap-at-requires c =
-    let r : RouterView = record { net = c.self.inside.network.now; number = c.self.inside.number; own_open = c.self.inside.own_open; peers = c.self.inside.peers.items; tables = c.self.inside.tables; marks = c.self.inside.marks; stamp = c.self.inside.stamp } in
+    let r = view_of c.self.inside in
     let has = has_next r c.args.peer c.self.invariant (subst (λ (x : RouterView). HasNext x c.args.peer) (sym c.self.view_is) c.requires) in
     found_some c.args.self.now.peers c.args.peer c.find.result c.find.ensures.place (ap (λ (x : RouterView). listed c.args.peer x.peers) (sym c.self.view_is) ∙ has.0)
 

@@ -6,7 +6,7 @@ use Rattle.router_model.specs.Calls.{Put}
 use Rattle.run_model.specs.declared.stamps.TheConstants.{GREATEST_STAMP}
 use Rattle.router_side.specs.SideOf.{side}
 use Rattle.router_core.specs.declared.peers.Peer.{Peer}
-use Rattle.router_core.specs.Views.{RouterView, IsFound, Answers, HasNext}
+use Rattle.router_core.specs.Views.{view_of, RouterView, IsFound, Answers, HasNext}
 use Rattle.router_core.proofs.Carrying.{Changes, with_peer, of_sound, stays, tracks_alike, records_same}
 use Rattle.router_model.specs.Sides.{Side}
 use Rattle.ranked_policy.specs.declared.network.Settings.{Settings}
@@ -16,7 +16,7 @@ use Rattle.router_core.proofs.router.Router.item_put_at.Goals as goal
 
 pub invariant_of-self : goal.invariant_of-self
 invariant_of-self c =
-    let r : RouterView = record { net = c.self.inside.network.now; number = c.self.inside.number; own_open = c.self.inside.own_open; peers = c.self.inside.peers.items; tables = c.self.inside.tables; marks = c.self.inside.marks; stamp = c.self.inside.stamp } in
+    let r = view_of c.self.inside in
     let has = has_next r c.args.peer c.self.invariant (subst (λ (x : RouterView). HasNext x c.args.peer) (sym c.self.view_is) c.requires.next) in
     let found = subst (λ (x : RouterView). IsFound x.peers c.args.peer c.args.at) (sym c.self.view_is) c.peer_stands_at.ensures.found in
     let p = c.index_mut.result.now in
@@ -29,7 +29,7 @@ invariant_of-self c =
 
 pub returns-clause-answers : goal.returns-clause-answers
 returns-clause-answers c =
-    let r : RouterView = record { net = c.self.inside.network.now; number = c.self.inside.number; own_open = c.self.inside.own_open; peers = c.self.inside.peers.items; tables = c.self.inside.tables; marks = c.self.inside.marks; stamp = c.self.inside.stamp } in
+    let r = view_of c.self.inside in
     let has = has_next r c.args.peer c.self.invariant (subst (λ (x : RouterView). HasNext x c.args.peer) (sym c.self.view_is) c.requires.next) in
     let found = subst (λ (x : RouterView). IsFound x.peers c.args.peer c.args.at) (sym c.self.view_is) c.peer_stands_at.ensures.found in
     let p = c.index_mut.result.now in

@@ -16,7 +16,7 @@ pub move_side-requires-clause-below : goal.move_side-requires-clause-below
 move_side-requires-clause-below c =
     let l = c.loop-at in
     let x = c.args.self.now in
-    let w = c.args.whole in
+    let w = c.args.event in
     let D = draft_by w x.own_open in
     let f : Side → Side = λ s. carried NoMessage s (D s) in
     let long = ready_long x.own_open D x.peers c.args.made.now c.requires.ready in
@@ -29,7 +29,7 @@ pub move_side-requires-clause-ready : goal.move_side-requires-clause-ready
 move_side-requires-clause-ready c = λ d.
     let l = c.loop-at in
     let x = c.args.self.now in
-    let w = c.args.whole in
+    let w = c.args.event in
     let D = draft_by w x.own_open in
     let f : Side → Side = λ s. carried NoMessage s (D s) in
     let long = ready_long x.own_open D x.peers c.args.made.now c.requires.ready in
@@ -45,7 +45,7 @@ pub move_side-requires-clause-fits : goal.move_side-requires-clause-fits
 move_side-requires-clause-fits c = λ d.
     let l = c.loop-at in
     let x = c.args.self.now in
-    let w = c.args.whole in
+    let w = c.args.event in
     let D = draft_by w x.own_open in
     let f : Side → Side = λ s. carried NoMessage s (D s) in
     let long = ready_long x.own_open D x.peers c.args.made.now c.requires.ready in
@@ -59,7 +59,7 @@ pub loop-at-preserved : goal.loop-at-preserved
 loop-at-preserved c =
     let l = c.loop-at in
     let x = c.args.self.now in
-    let w = c.args.whole in
+    let w = c.args.event in
     let D = draft_by w x.own_open in
     let f : Side → Side = λ s. carried NoMessage s (D s) in
     let long = ready_long x.own_open D x.peers c.args.made.now c.requires.ready in
@@ -82,7 +82,7 @@ pub returns : goal.returns
 returns c =
     let l = c.loop-at in
     let x = c.args.self.now in
-    let w = c.args.whole in
+    let w = c.args.event in
     let D = draft_by w x.own_open in
     let f : Side → Side = λ s. carried NoMessage s (D s) in
     let long = ready_long x.own_open D x.peers c.args.made.now c.requires.ready in

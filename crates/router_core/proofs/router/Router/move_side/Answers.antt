@@ -6,7 +6,7 @@ use Rattle.router_model.specs.Step.{close_at}
 use Rattle.router_side.specs.Drafts.{draft}
 use Rattle.router_side.specs.SideOf.{side}
 use Rattle.router_core.specs.declared.peers.Peer.{Peer}
-use Rattle.router_core.specs.Views.{RouterView, IsAt}
+use Rattle.router_core.specs.Views.{view_of, RouterView, IsAt}
 use Rattle.router_core.specs.Following.{standing}
 use Rattle.router_core.specs.ToAll.{draft_by, IsReady, MovesSide}
 use Rattle.router_core.proofs.Beginnings.{linked_to}
@@ -14,12 +14,12 @@ use Rattle.router_core.proofs.PeerLemmas.{is_listed}
 use Rattle.router_core.proofs.Following.{leaves}
 use Rattle.router_core.proofs.Carrying.{Changes, with_peer, stays, tracks_moved, keeps_here}
 use Rattle.router_core.proofs.Recording.{rises}
-use Rattle.router_core.proofs.Moving.{at_here, get_same, whole_keeps}
+use Rattle.router_core.proofs.Moving.{at_here, get_same, event_keeps}
 use Rattle.router_core.proofs.router.Router.move_side.Goals as goal
 
 pub carry-requires-clause-linked : goal.carry-requires-clause-linked
 carry-requires-clause-linked c =
-    let r : RouterView = record { net = c.self.inside.network.now; number = c.self.inside.number; own_open = c.self.inside.own_open; peers = c.self.inside.peers.items; tables = c.self.inside.tables; marks = c.self.inside.marks; stamp = c.self.inside.stamp } in
+    let r = view_of c.self.inside in
     let at = c.args.at in
     let below = subst (λ (x : RouterView). at < length x.peers) (sym c.self.view_is) c.requires.below in
     let i = c.index.result.now in
@@ -30,7 +30,7 @@ carry-requires-clause-linked c =
 
 pub invariant_of-self : goal.invariant_of-self
 invariant_of-self c =
-    let r : RouterView = record { net = c.self.inside.network.now; number = c.self.inside.number; own_open = c.self.inside.own_open; peers = c.self.inside.peers.items; tables = c.self.inside.tables; marks = c.self.inside.marks; stamp = c.self.inside.stamp } in
+    let r = view_of c.self.inside in
     let at = c.args.at in
     let below = subst (λ (x : RouterView). at < length x.peers) (sym c.self.view_is) c.requires.below in
     let i = c.index.result.now in
@@ -39,19 +39,19 @@ invariant_of-self c =
     let p = c.index_mut.result.now in
     let q : Peer = record { number = p.number; end = c.carry.new.end } in
     let ch : Changes r v at p q = record { place = place; here = c.index_mut.ensures.value; number = refl } in
-    let D = draft_by c.args.whole r.own_open in
+    let D = draft_by c.args.event r.own_open in
     let a = draft r.own_open NoMessage c.args.made.now in
-    let ready = subst (λ (x : RouterView). (d : Peer) → IsReady x.own_open (draft_by c.args.whole x.own_open) (get_or x.peers at d) c.args.made.now) (sym c.self.view_is) c.requires.ready in
+    let ready = subst (λ (x : RouterView). (d : Peer) → IsReady x.own_open (draft_by c.args.event x.own_open) (get_or x.peers at d) c.args.made.now) (sym c.self.view_is) c.requires.ready in
     let made : a ≡ D (side p.end) = (ready p).0 ∙ ap (λ (w : Peer). D (side w.end)) (sym c.index_mut.ensures.value) in
-    let fits = subst (λ (x : RouterView). (d : Peer) → (draft_by c.args.whole x.own_open (side (get_or x.peers at d).end)).overflows ≡ false) (sym c.self.view_is) c.requires.fits in
+    let fits = subst (λ (x : RouterView). (d : Peer) → (draft_by c.args.event x.own_open (side (get_or x.peers at d).end)).overflows ≡ false) (sym c.self.view_is) c.requires.fits in
     let fit = ap (λ (w : Peer). (D (side w.end)).overflows) c.index_mut.ensures.value ∙ fits p in
-    let fresh = keeps_here r v at p place c.index_mut.ensures.value c.self.invariant a (D (side p.end)) made (λ f. whole_keeps c.sessions_keep_fresh.ensures c.args.whole r.own_open (side p.end) f fit) in
+    let fresh = keeps_here r v at p place c.index_mut.ensures.value c.self.invariant a (D (side p.end)) made (λ f. event_keeps c.sessions_keep_fresh.ensures c.args.event r.own_open (side p.end) f fit) in
     stays r v at p q ch c.carry.new.tables c.close.new.marks r.stamp c.self.invariant c.self.invariant.stamp
     (tracks_moved r v at p q ch c.self.invariant a c.carry.new.tables fresh c.carry.ensures.side c.carry.ensures.tables) (record { over = c.close.ensures.over; router = c.close.ensures.router })
 
 pub returns : goal.returns
 returns c =
-    let r : RouterView = record { net = c.self.inside.network.now; number = c.self.inside.number; own_open = c.self.inside.own_open; peers = c.self.inside.peers.items; tables = c.self.inside.tables; marks = c.self.inside.marks; stamp = c.self.inside.stamp } in
+    let r = view_of c.self.inside in
     let at = c.args.at in
     let below = subst (λ (x : RouterView). at < length x.peers) (sym c.self.view_is) c.requires.below in
     let i = c.index.result.now in
@@ -60,13 +60,13 @@ returns c =
     let p = c.index_mut.result.now in
     let q : Peer = record { number = p.number; end = c.carry.new.end } in
     let ch : Changes r v at p q = record { place = place; here = c.index_mut.ensures.value; number = refl } in
-    let D = draft_by c.args.whole r.own_open in
+    let D = draft_by c.args.event r.own_open in
     let a = draft r.own_open NoMessage c.args.made.now in
-    let ready = subst (λ (x : RouterView). (d : Peer) → IsReady x.own_open (draft_by c.args.whole x.own_open) (get_or x.peers at d) c.args.made.now) (sym c.self.view_is) c.requires.ready in
+    let ready = subst (λ (x : RouterView). (d : Peer) → IsReady x.own_open (draft_by c.args.event x.own_open) (get_or x.peers at d) c.args.made.now) (sym c.self.view_is) c.requires.ready in
     let made : a ≡ D (side p.end) = (ready p).0 ∙ ap (λ (w : Peer). D (side w.end)) (sym c.index_mut.ensures.value) in
     let on = leaves r.tables c.carry.new.tables v (standing (side p.end)) (standing (side c.carry.new.end)) c.carry.ensures.tables in
     let one : i ≡ p = c.index.ensures ∙ get_same r.peers at i p below ∙ sym c.index_mut.ensures.value in
-    subst (λ (x : RouterView). MovesSide x at (draft_by c.args.whole x.own_open) (with_peer r at q c.carry.new.tables c.close.new.marks r.stamp)) c.self.view_is (record {
+    subst (λ (x : RouterView). MovesSide x at (draft_by c.args.event x.own_open) (with_peer r at q c.carry.new.tables c.close.new.marks r.stamp)) c.self.view_is (record {
       peer = q;
       peers = refl;
       number = λ d. ap (λ (w : Peer). w.number) (c.index_mut.ensures.value ∙ get_same r.peers at p d below);

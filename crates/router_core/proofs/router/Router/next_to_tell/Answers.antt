@@ -5,26 +5,26 @@ use Rattle.outbox.specs.Items.{octets_waiting}
 use Rattle.router_model.specs.declared.limits.TheConstants.{OUTBOX_LIMIT}
 use Rattle.router_side.specs.SideOf.{side}
 use Rattle.router_core.specs.declared.router.choose.Next.TheVariants as next
-use Rattle.router_core.specs.Views.{RouterView, IsNext}
+use Rattle.router_core.specs.Views.{view_of, RouterView, IsNext}
 use Rattle.router_core.proofs.Nexts.{past_idle, past_full, is_next, nobody_waits}
 use Rattle.router_core.proofs.Places.{listed_here}
 use Rattle.router_core.proofs.router.Router.next_to_tell.Goals as goal
 
 pub waiting_at-requires : goal.waiting_at-requires
 waiting_at-requires c =
-    let r : RouterView = record { net = c.self.inside.network.now; number = c.self.inside.number; own_open = c.self.inside.own_open; peers = c.self.inside.peers.items; tables = c.self.inside.tables; marks = c.self.inside.marks; stamp = c.self.inside.stamp } in
+    let r = view_of c.self.inside in
     let lt : c.loop-at.at < length r.peers = search rules in
     record { stands = listed_here r c.loop-at.at c.index-peer.result.now c.self.invariant lt c.index-peer.ensures }
 
 pub loop-at-preserved-in_default : goal.loop-at-preserved-in_default
 loop-at-preserved-in_default c =
-    let r : RouterView = record { net = c.self.inside.network.now; number = c.self.inside.number; own_open = c.self.inside.own_open; peers = c.self.inside.peers.items; tables = c.self.inside.tables; marks = c.self.inside.marks; stamp = c.self.inside.stamp } in
+    let r = view_of c.self.inside in
     let lt : c.loop-at.at < length r.peers = search rules in
     past_idle r c.self.invariant c.loop-at.at c.index-peer.result.now lt c.index-peer.ensures c.in_default.ensures.least c.loop-at.blocked c.loop-at.invariant
 
 pub loop-at-preserved : goal.loop-at-preserved
 loop-at-preserved c =
-    let r : RouterView = record { net = c.self.inside.network.now; number = c.self.inside.number; own_open = c.self.inside.own_open; peers = c.self.inside.peers.items; tables = c.self.inside.tables; marks = c.self.inside.marks; stamp = c.self.inside.stamp } in
+    let r = view_of c.self.inside in
     let lt : c.loop-at.at < length r.peers = search rules in
     let p = c.index-peer.result.now in
     let full : nat_lt (octets_waiting (side p.end).outbox) OUTBOX_LIMIT ≡ false = grind (arith, nat_tests, c.octets_waiting.ensures, c.if-octets_waiting-lt-OUTBOX_LIMIT.false) in
@@ -32,7 +32,7 @@ loop-at-preserved c =
 
 pub returns-then-octets_waiting-lt-OUTBOX_LIMIT : goal.returns-then-octets_waiting-lt-OUTBOX_LIMIT
 returns-then-octets_waiting-lt-OUTBOX_LIMIT c =
-    let r : RouterView = record { net = c.self.inside.network.now; number = c.self.inside.number; own_open = c.self.inside.own_open; peers = c.self.inside.peers.items; tables = c.self.inside.tables; marks = c.self.inside.marks; stamp = c.self.inside.stamp } in
+    let r = view_of c.self.inside in
     let lt : c.loop-at.at < length r.peers = search rules in
     let p = c.index-peer.result.now in
     let free : nat_lt (octets_waiting (side p.end).outbox) OUTBOX_LIMIT ≡ true = grind (arith, nat_tests, c.octets_waiting.ensures, c.if-octets_waiting-lt-OUTBOX_LIMIT.true) in
@@ -42,5 +42,5 @@ returns-then-octets_waiting-lt-OUTBOX_LIMIT c =
 
 pub returns-then-not-has_waiting_peer : goal.returns-then-not-has_waiting_peer
 returns-then-not-has_waiting_peer c =
-    let r : RouterView = record { net = c.self.inside.network.now; number = c.self.inside.number; own_open = c.self.inside.own_open; peers = c.self.inside.peers.items; tables = c.self.inside.tables; marks = c.self.inside.marks; stamp = c.self.inside.stamp } in
+    let r = view_of c.self.inside in
     subst (λ (x : RouterView). IsNext x next.Nobody) c.self.view_is (nobody_waits r c.self.invariant (c.has_waiting_peer.ensures.none c.if-not-has_waiting_peer.true))

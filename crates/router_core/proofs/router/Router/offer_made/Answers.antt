@@ -3,14 +3,14 @@ use Rattle.router_model.specs.Settings.{peers}
 use Rattle.snap_marker.specs.declared.part.Part.{Part}
 use Rattle.std.specs.Prelude.{Option}
 use Rattle.snap_marker.specs.Parts.{IsOver}
-use Rattle.router_core.specs.Views.{RouterView}
+use Rattle.router_core.specs.Views.{view_of}
 use Rattle.router_core.proofs.Marking.{same_become}
 use Rattle.router_core.proofs.Snapshots.{Marks, same_alike, stays_sound}
 use Rattle.router_core.proofs.router.Router.offer_made.Goals as goal
 
 pub invariant_of-self : goal.invariant_of-self
 invariant_of-self c =
-    let r : RouterView = record { net = c.self.inside.network.now; number = c.self.inside.number; own_open = c.self.inside.own_open; peers = c.self.inside.peers.items; tables = c.self.inside.tables; marks = c.self.inside.marks; stamp = c.self.inside.stamp } in
+    let r = view_of c.self.inside in
     let s = c.self.invariant in
     let m = c.offer_made.new.self in
     let marks : Marks r m =

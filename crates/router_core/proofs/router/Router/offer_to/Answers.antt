@@ -9,14 +9,14 @@ use Rattle.snap_marker.specs.Parts.{IsOver, offer_of, router_of}
 use Rattle.snap_marker.specs.Recordings.{MadeOffer}
 use Rattle.snap_collector.specs.Collecting.{made_by}
 use Rattle.snap_collector.specs.Collector.{made_for, with_offers}
-use Rattle.router_core.specs.Views.{RouterView}
+use Rattle.router_core.specs.Views.{view_of}
 use Rattle.router_core.proofs.Marking.{same_become}
 use Rattle.router_core.proofs.Snapshots.{Marks, same_alike, stays_sound}
 use Rattle.router_core.proofs.router.Router.offer_to.Goals as goal
 
 pub invariant_of-self-2 : goal.invariant_of-self-2
 invariant_of-self-2 c =
-    let r : RouterView = record { net = c.self.inside.network.now; number = c.self.inside.number; own_open = c.self.inside.own_open; peers = c.self.inside.peers.items; tables = c.self.inside.tables; marks = c.self.inside.marks; stamp = c.self.inside.stamp } in
+    let r = view_of c.self.inside in
     let s = c.self.invariant in
     let m = c.record_from.new.marks in
     let marks : Marks r m =

@@ -7,20 +7,20 @@ use Rattle.router_model.specs.declared.refusal.RouterError.TheVariants as error
 use Rattle.router_model.specs.declared.refusal.Stepped.TheVariants as stepped
 use Rattle.router_model.specs.Calls.{Obey}
 use Rattle.run_model.specs.declared.stamps.TheConstants.{GREATEST_STAMP}
-use Rattle.router_core.specs.Views.{RouterView, Answers}
+use Rattle.router_core.specs.Views.{view_of, RouterView, Answers}
 use Rattle.router_core.specs.Calling.{no_step}
 use Rattle.router_core.proofs.Originations.{with_tables, sound_originating, no_origin_to_originate, originated_already, no_step_to_originate, originates}
 use Rattle.router_core.proofs.router.Router.originate.Goals as goal
 
 pub returns-then-not-is_origin-clause-answers : goal.returns-then-not-is_origin-clause-answers
 returns-then-not-is_origin-clause-answers c =
-    let r : RouterView = record { net = c.self.inside.network.now; number = c.self.inside.number; own_open = c.self.inside.own_open; peers = c.self.inside.peers.items; tables = c.self.inside.tables; marks = c.self.inside.marks; stamp = c.self.inside.stamp } in
+    let r = view_of c.self.inside in
     let q = c.args.prefix.now in
     subst (λ (x : RouterView). Answers (Err error.NotOrigin) x (Obey (Originate q)) x) c.self.view_is (λ g e ranks. no_origin_to_originate g r e q c.is_origin.result c.is_origin.ensures c.if-not-is_origin.true)
 
 pub returns-then-is_originated-clause-answers : goal.returns-then-is_originated-clause-answers
 returns-then-is_originated-clause-answers c =
-    let r : RouterView = record { net = c.self.inside.network.now; number = c.self.inside.number; own_open = c.self.inside.own_open; peers = c.self.inside.peers.items; tables = c.self.inside.tables; marks = c.self.inside.marks; stamp = c.self.inside.stamp } in
+    let r = view_of c.self.inside in
     let q = c.args.prefix.now in
     subst (λ (x : RouterView). Answers (Ok stepped.Nothing) x (Obey (Originate q)) x) c.self.view_is (λ g e ranks.
     originated_already g r e q c.is_origin.result c.is_origin.ensures c.if-not-is_origin.false c.is_originated.result c.is_originated.ensures c.if-is_originated.true)
@@ -28,7 +28,7 @@ returns-then-is_originated-clause-answers c =
 pub returns-in_err-stamp-clause-answers : goal.returns-in_err-stamp-clause-answers
 returns-in_err-stamp-clause-answers c =
     let p = err_from_is_err_and c.from_residual.result c.from_residual.ensures.1 in
-    let r : RouterView = record { net = c.self.inside.network.now; number = c.self.inside.number; own_open = c.self.inside.own_open; peers = c.self.inside.peers.items; tables = c.self.inside.tables; marks = c.self.inside.marks; stamp = c.self.inside.stamp } in
+    let r = view_of c.self.inside in
     let q = c.args.prefix.now in
     rw (p.1, p.2, c.in_err-stamp.ensures.refused)
     (subst (λ (x : RouterView). Answers (Err (no_step r.stamp)) x (Obey (Originate q)) x) c.self.view_is (λ g e ranks.
@@ -36,13 +36,13 @@ returns-in_err-stamp-clause-answers c =
 
 pub invariant_of-self : goal.invariant_of-self
 invariant_of-self c =
-    let r : RouterView = record { net = c.self.inside.network.now; number = c.self.inside.number; own_open = c.self.inside.own_open; peers = c.self.inside.peers.items; tables = c.self.inside.tables; marks = c.self.inside.marks; stamp = c.self.inside.stamp } in
+    let r = view_of c.self.inside in
     let few : r.stamp + 1 ≤ GREATEST_STAMP = grind (arith, nat_tests, c.in_ok-stamp.ensures.next.1) in
     rw c.in_ok-stamp.ensures.next.0 (sound_originating r (r.stamp + 1) c.self.invariant few c.originate.new.self c.args.prefix.now c.originate.ensures (c.is_origin.ensures.0 c.if-not-is_origin.false))
 
 pub returns-clause-answers : goal.returns-clause-answers
 returns-clause-answers c =
-    let r : RouterView = record { net = c.self.inside.network.now; number = c.self.inside.number; own_open = c.self.inside.own_open; peers = c.self.inside.peers.items; tables = c.self.inside.tables; marks = c.self.inside.marks; stamp = c.self.inside.stamp } in
+    let r = view_of c.self.inside in
     let q = c.args.prefix.now in
     rw c.in_ok-stamp.ensures.next.0
     (subst (λ (x : RouterView). Answers (Ok stepped.Did) x (Obey (Originate q)) (with_tables r c.originate.new.self (r.stamp + 1))) c.self.view_is (λ g e ranks.

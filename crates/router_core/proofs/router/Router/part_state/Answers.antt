@@ -2,14 +2,14 @@ use Rattle.std.proofs.Common.{List, subst}
 use Rattle.std.specs.Prelude.{None}
 use Rattle.ranked_policy.specs.declared.network.Origin.{Origin}
 use Rattle.router_core.specs.declared.peers.Peer.{Peer}
-use Rattle.router_core.specs.Views.{RouterView}
+use Rattle.router_core.specs.Views.{view_of, RouterView}
 use Rattle.router_core.specs.Recorded.{IsPart, IsStateOf}
 use Rattle.router_core.proofs.Snapshots.{part_same}
 use Rattle.router_core.proofs.router.Router.part_state.Goals as goal
 
 pub returns : goal.returns
 returns c =
-    let r : RouterView = record { net = c.self.inside.network.now; number = c.self.inside.number; own_open = c.self.inside.own_open; peers = c.self.inside.peers.items; tables = c.self.inside.tables; marks = c.self.inside.marks; stamp = c.self.inside.stamp } in
+    let r = view_of c.self.inside in
     let s = c.self.invariant in
     let laws = c.the_best_is_the_best_path.ensures in
     let part =

@@ -1,20 +1,22 @@
+use Rattle.std.proofs.Common.{refl}
+use Rattle.router_model.specs.declared.command.Command.TheVariants.{Start, Stop, Reset}
 use Rattle.router_core.proofs.router.Router.perform.Goals as goal
 
 -- each command is answered by its own call
 pub returns-in-Obey-Start-clause-answers : goal.returns-in-Obey-Start-clause-answers
 returns-in-Obey-Start-clause-answers c =
     let field = rw c.in-Obey-Start.is at c.in-Obey-Start.field-0-is in
-    rw (c.in-Obey-Start.is, field) c.start.ensures.answers
+    rw (c.in-Obey-Start.is, field) (c.command_peer.ensures.answers (Start c.in-Obey-Start.peer) refl)
 
 pub returns-in-Obey-Stop-clause-answers : goal.returns-in-Obey-Stop-clause-answers
 returns-in-Obey-Stop-clause-answers c =
     let field = rw c.in-Obey-Stop.is at c.in-Obey-Stop.field-0-is in
-    rw (c.in-Obey-Stop.is, field) c.stop.ensures.answers
+    rw (c.in-Obey-Stop.is, field) (c.command_peer-in-Obey-Stop.ensures.answers (Stop c.in-Obey-Stop.peer) refl)
 
 pub returns-in-Obey-Reset-clause-answers : goal.returns-in-Obey-Reset-clause-answers
 returns-in-Obey-Reset-clause-answers c =
     let field = rw c.in-Obey-Reset.is at c.in-Obey-Reset.field-0-is in
-    rw (c.in-Obey-Reset.is, field) c.reset.ensures.answers
+    rw (c.in-Obey-Reset.is, field) (c.command_peer-in-Obey-Reset.ensures.answers (Reset c.in-Obey-Reset.peer) refl)
 
 pub returns-in-Obey-Originate-clause-answers : goal.returns-in-Obey-Originate-clause-answers
 returns-in-Obey-Originate-clause-answers c =

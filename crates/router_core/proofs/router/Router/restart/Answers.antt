@@ -10,7 +10,7 @@ use Rattle.router_model.specs.Sides.{draft_event}
 use Rattle.router_model.specs.Step.{forgetting}
 use Rattle.router_model.specs.Calls.{Stamped, Obey}
 use Rattle.run_model.specs.declared.stamps.TheConstants.{GREATEST_STAMP}
-use Rattle.router_core.specs.Views.{RouterView, Answers, plain_of}
+use Rattle.router_core.specs.Views.{view_of, RouterView, Answers, plain_of}
 use Rattle.router_core.specs.Calling.{no_step}
 use Rattle.router_core.proofs.NoStep.{ends_no_step}
 use Rattle.router_core.proofs.Snapshots.{with_peers, same_plain}
@@ -21,19 +21,19 @@ use Rattle.router_core.proofs.router.Router.restart.Goals as goal
 pub returns-in_err-stamp-clause-answers : goal.returns-in_err-stamp-clause-answers
 returns-in_err-stamp-clause-answers c =
     let p = err_from_is_err_and c.from_residual.result c.from_residual.ensures.1 in
-    let r : RouterView = record { net = c.self.inside.network.now; number = c.self.inside.number; own_open = c.self.inside.own_open; peers = c.self.inside.peers.items; tables = c.self.inside.tables; marks = c.self.inside.marks; stamp = c.self.inside.stamp } in
+    let r = view_of c.self.inside in
     rw (p.1, p.2, c.in_err-stamp.ensures.refused)
     (subst (λ (x : RouterView). Answers (Err (no_step r.stamp)) x (Obey Restart) x) c.self.view_is (λ g e ranks.
     restarts g r e c.self.invariant (Err (no_step r.stamp)) (plain_of r) (ends_no_step (nat_lt GREATEST_STAMP (r.stamp + 1)) (plain_of r) (restarted g r e c.self.invariant))))
 
 pub invariant_of-self : goal.invariant_of-self
 invariant_of-self c =
-    let r : RouterView = record { net = c.self.inside.network.now; number = c.self.inside.number; own_open = c.self.inside.own_open; peers = c.self.inside.peers.items; tables = c.self.inside.tables; marks = c.self.inside.marks; stamp = c.self.inside.stamp } in
+    let r = view_of c.self.inside in
     prepared_sound r c.prepare.new.peers.items c.self.invariant c.prepare.ensures.same
 
 pub returns-in_default-clause-answers : goal.returns-in_default-clause-answers
 returns-in_default-clause-answers c =
-    let r : RouterView = record { net = c.self.inside.network.now; number = c.self.inside.number; own_open = c.self.inside.own_open; peers = c.self.inside.peers.items; tables = c.self.inside.tables; marks = c.self.inside.marks; stamp = c.self.inside.stamp } in
+    let r = view_of c.self.inside in
     let early : nat_lt GREATEST_STAMP (r.stamp + 1) ≡ false = c.in_ok-stamp.ensures.next.1 in
     let qs = c.prepare.new.peers.items in
     let same = same_plain r qs r.marks c.prepare.ensures.same refl in
@@ -43,7 +43,7 @@ returns-in_default-clause-answers c =
 
 pub invariant_of-self-2 : goal.invariant_of-self-2
 invariant_of-self-2 c =
-    let r : RouterView = record { net = c.self.inside.network.now; number = c.self.inside.number; own_open = c.self.inside.own_open; peers = c.self.inside.peers.items; tables = c.self.inside.tables; marks = c.self.inside.marks; stamp = c.self.inside.stamp } in
+    let r = view_of c.self.inside in
     prepared_sound r c.prepare.new.peers.items c.self.invariant c.prepare.ensures.same
 
 pub move_all-requires-clause-fits : goal.move_all-requires-clause-fits
@@ -51,16 +51,16 @@ move_all-requires-clause-fits c = stops_fit c.self.inside.own_open c.prepare.new
 
 pub invariant_of-self-3 : goal.invariant_of-self-3
 invariant_of-self-3 c =
-    let r : RouterView = record { net = c.self.inside.network.now; number = c.self.inside.number; own_open = c.self.inside.own_open; peers = c.self.inside.peers.items; tables = c.self.inside.tables; marks = c.self.inside.marks; stamp = c.self.inside.stamp } in
-    let w : RouterView = record { net = c.self-2.inside.network.now; number = c.self-2.inside.number; own_open = c.self-2.inside.own_open; peers = c.self-2.inside.peers.items; tables = c.self-2.inside.tables; marks = c.self-2.inside.marks; stamp = c.self-2.inside.stamp } in
+    let r = view_of c.self.inside in
+    let w = view_of c.self-2.inside in
     let few : r.stamp + 1 ≤ GREATEST_STAMP = grind (arith, nat_tests, c.in_ok-stamp.ensures.next.1) in
     rw c.in_ok-stamp.ensures.next.0
     (cleared_sound w c.clear.new.self (r.stamp + 1) c.self-2.invariant few c.clear.ensures)
 
 pub returns-clause-answers : goal.returns-clause-answers
 returns-clause-answers c =
-    let r : RouterView = record { net = c.self.inside.network.now; number = c.self.inside.number; own_open = c.self.inside.own_open; peers = c.self.inside.peers.items; tables = c.self.inside.tables; marks = c.self.inside.marks; stamp = c.self.inside.stamp } in
-    let w : RouterView = record { net = c.self-2.inside.network.now; number = c.self-2.inside.number; own_open = c.self-2.inside.own_open; peers = c.self-2.inside.peers.items; tables = c.self-2.inside.tables; marks = c.self-2.inside.marks; stamp = c.self-2.inside.stamp } in
+    let r = view_of c.self.inside in
+    let w = view_of c.self-2.inside in
     let early : nat_lt GREATEST_STAMP (r.stamp + 1) ≡ false = c.in_ok-stamp.ensures.next.1 in
     let y = at_stamp w c.clear.new.self (r.stamp + 1) in
     rw c.in_ok-stamp.ensures.next.0

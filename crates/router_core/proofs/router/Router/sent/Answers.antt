@@ -5,13 +5,13 @@ use Rattle.router_model.specs.Sides.{Side}
 use Rattle.router_side.specs.Histories.{history}
 use Rattle.router_side.specs.SideOf.{side, side_opening}
 use Rattle.router_core.specs.declared.peers.Peer.{Peer}
-use Rattle.router_core.specs.Views.{RouterView, IsFound, sides_of, config_of}
+use Rattle.router_core.specs.Views.{view_of, RouterView, IsFound, sides_of, config_of}
 use Rattle.router_core.proofs.PeerLemmas.{side_here}
 use Rattle.router_core.proofs.router.Router.sent.Goals as goal
 
 pub returns : goal.returns
 returns c =
-    let r : RouterView = record { net = c.self.inside.network.now; number = c.self.inside.number; own_open = c.self.inside.own_open; peers = c.self.inside.peers.items; tables = c.self.inside.tables; marks = c.self.inside.marks; stamp = c.self.inside.stamp } in
+    let r = view_of c.self.inside in
     let v = c.args.peer in
     let place = subst (λ (x : RouterView). IsFound x.peers v c.in_ok-at.at) (sym c.self.view_is) c.in_ok-at.ensures.place in
     let stands : sides_of r v ≡ side c.index.result.now.end =

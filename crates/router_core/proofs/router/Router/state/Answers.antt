@@ -1,9 +1,9 @@
 use Rattle.std.proofs.Common.{◌∙◌, Some, ap}
-use Rattle.router_core.specs.Views.{RouterView}
+use Rattle.router_core.specs.Views.{view_of}
 use Rattle.router_core.proofs.Showing.{shown}
 use Rattle.router_core.proofs.router.Router.state.Goals as goal
 
 pub returns : goal.returns
 returns c =
-    let r : RouterView = record { net = c.self.inside.network.now; number = c.self.inside.number; own_open = c.self.inside.own_open; peers = c.self.inside.peers.items; tables = c.self.inside.tables; marks = c.self.inside.marks; stamp = c.self.inside.stamp } in
+    let r = view_of c.self.inside in
     ap Some c.state.ensures ∙ shown r c.args.self.now c.args.peer c.in_ok-at.at c.index.result.now (λ side. side.session.state) c.self.view_is c.in_ok-at.ensures.place c.in_ok-at.ensures.none c.index.ensures

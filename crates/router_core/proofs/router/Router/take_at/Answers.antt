@@ -12,7 +12,7 @@ use Rattle.run_model.specs.declared.stamps.TheConstants.{GREATEST_STAMP}
 use Rattle.link_epoch.specs.declared.link_end.Sign.TheVariants as sign
 use Rattle.router_side.specs.SideOf.{side}
 use Rattle.router_core.specs.declared.peers.Peer.{Peer}
-use Rattle.router_core.specs.Views.{RouterView, IsFound, Answers, Carries, TakesSign, TakesMark, sides_of, plain_of}
+use Rattle.router_core.specs.Views.{view_of, RouterView, IsFound, Answers, Carries, TakesSign, TakesMark, sides_of, plain_of}
 use Rattle.router_core.proofs.PeerLemmas.{here_same}
 use Rattle.router_core.proofs.Carrying.{Changes, with_peer, of_sound, stays, tracks_alike, records_same}
 use Rattle.router_core.proofs.Taking.{takes_held, takes_late, takes_dial, takes_shut, takes_piece, refuses_piece, takes_mark, fed_is, shut_fits, stands_at}
@@ -20,7 +20,7 @@ use Rattle.router_core.proofs.router.Router.take_at.Goals as goal
 
 pub returns-then-is_waiting-clause-answers : goal.returns-then-is_waiting-clause-answers
 returns-then-is_waiting-clause-answers c =
-    let r : RouterView = record { net = c.self.inside.network.now; number = c.self.inside.number; own_open = c.self.inside.own_open; peers = c.self.inside.peers.items; tables = c.self.inside.tables; marks = c.self.inside.marks; stamp = c.self.inside.stamp } in
+    let r = view_of c.self.inside in
     let found = subst (λ (x : RouterView). IsFound x.peers c.args.peer c.args.at) (sym c.self.view_is) c.peer_stands_at.ensures.found in
     subst (λ (x : RouterView). Answers (Err (error.Held c.args.peer)) x (Take c.args.peer c.args.item.now.stamp c.args.item.now.what) x) c.self.view_is (λ g e ranks.
     takes_held g r c.args.peer c.args.at c.index.result.now (of_sound g r c.self.invariant e) found.2 c.index.ensures found.1 c.args.item.now.stamp c.args.item.now.what
@@ -28,7 +28,7 @@ returns-then-is_waiting-clause-answers c =
 
 pub returns-then-stamp-gt-GREATEST_STAMP-clause-answers : goal.returns-then-stamp-gt-GREATEST_STAMP-clause-answers
 returns-then-stamp-gt-GREATEST_STAMP-clause-answers c =
-    let r : RouterView = record { net = c.self.inside.network.now; number = c.self.inside.number; own_open = c.self.inside.own_open; peers = c.self.inside.peers.items; tables = c.self.inside.tables; marks = c.self.inside.marks; stamp = c.self.inside.stamp } in
+    let r = view_of c.self.inside in
     let found = subst (λ (x : RouterView). IsFound x.peers c.args.peer c.args.at) (sym c.self.view_is) c.peer_stands_at.ensures.found in
     let late : nat_lt GREATEST_STAMP (max r.stamp c.args.item.now.stamp + 1) ≡ true = grind (arith, nat_tests, c.if-stamp-gt-GREATEST_STAMP.true, c.max.ensures, c.saturating_add-stamp.ensures) in
     subst (λ (x : RouterView). Answers (Err error.StampEnd) x (Take c.args.peer c.args.item.now.stamp c.args.item.now.what) x) c.self.view_is (λ g e ranks.
@@ -37,7 +37,7 @@ returns-then-stamp-gt-GREATEST_STAMP-clause-answers c =
 
 pub invariant_of-self : goal.invariant_of-self
 invariant_of-self c =
-    let r : RouterView = record { net = c.self.inside.network.now; number = c.self.inside.number; own_open = c.self.inside.own_open; peers = c.self.inside.peers.items; tables = c.self.inside.tables; marks = c.self.inside.marks; stamp = c.self.inside.stamp } in
+    let r = view_of c.self.inside in
     let found = subst (λ (x : RouterView). IsFound x.peers c.args.peer c.args.at) (sym c.self.view_is) c.peer_stands_at.ensures.found in
     let p = c.index_mut.result.now in
     let q : Peer = record { number = p.number; end = c.take_piece.new.self } in
@@ -49,7 +49,7 @@ invariant_of-self c =
 
 pub returns-in-Dial-clause-answers : goal.returns-in-Dial-clause-answers
 returns-in-Dial-clause-answers c =
-    let r : RouterView = record { net = c.self.inside.network.now; number = c.self.inside.number; own_open = c.self.inside.own_open; peers = c.self.inside.peers.items; tables = c.self.inside.tables; marks = c.self.inside.marks; stamp = c.self.inside.stamp } in
+    let r = view_of c.self.inside in
     let v = c.args.peer in
     let found = subst (λ (x : RouterView). IsFound x.peers c.args.peer c.args.at) (sym c.self.view_is) c.peer_stands_at.ensures.found in
     let next : c.saturating_add-stamp.result ≡ max r.stamp c.args.item.now.stamp + 1 = omega (arith, c.if-stamp-gt-GREATEST_STAMP.false, c.max.ensures, c.saturating_add-stamp.ensures) in
@@ -66,7 +66,7 @@ returns-in-Dial-clause-answers c =
 
 pub returns-in-Shut-clause-answers : goal.returns-in-Shut-clause-answers
 returns-in-Shut-clause-answers c =
-    let r : RouterView = record { net = c.self.inside.network.now; number = c.self.inside.number; own_open = c.self.inside.own_open; peers = c.self.inside.peers.items; tables = c.self.inside.tables; marks = c.self.inside.marks; stamp = c.self.inside.stamp } in
+    let r = view_of c.self.inside in
     let v = c.args.peer in
     let found = subst (λ (x : RouterView). IsFound x.peers c.args.peer c.args.at) (sym c.self.view_is) c.peer_stands_at.ensures.found in
     let next : c.saturating_add-stamp.result ≡ max r.stamp c.args.item.now.stamp + 1 = omega (arith, c.if-stamp-gt-GREATEST_STAMP.false, c.max.ensures, c.saturating_add-stamp.ensures) in
@@ -85,7 +85,7 @@ returns-in-Shut-clause-answers c =
 pub returns-in_err-room-in-Piece-clause-answers : goal.returns-in_err-room-in-Piece-clause-answers
 returns-in_err-room-in-Piece-clause-answers c =
     let p = err_from_is_err_and c.from_residual.result c.from_residual.ensures.1 in
-    let r : RouterView = record { net = c.self.inside.network.now; number = c.self.inside.number; own_open = c.self.inside.own_open; peers = c.self.inside.peers.items; tables = c.self.inside.tables; marks = c.self.inside.marks; stamp = c.self.inside.stamp } in
+    let r = view_of c.self.inside in
     let found = subst (λ (x : RouterView). IsFound x.peers c.args.peer c.args.at) (sym c.self.view_is) c.peer_stands_at.ensures.found in
     let next : c.saturating_add-stamp.result ≡ max r.stamp c.args.item.now.stamp + 1 = omega (arith, c.if-stamp-gt-GREATEST_STAMP.false, c.max.ensures, c.saturating_add-stamp.ensures) in
     let early : nat_lt GREATEST_STAMP (max r.stamp c.args.item.now.stamp + 1) ≡ false = grind (arith, nat_tests, c.if-stamp-gt-GREATEST_STAMP.false, next) in
@@ -96,7 +96,7 @@ returns-in_err-room-in-Piece-clause-answers c =
 
 pub returns-in_ok-room-in-Piece-clause-answers : goal.returns-in_ok-room-in-Piece-clause-answers
 returns-in_ok-room-in-Piece-clause-answers c =
-    let r : RouterView = record { net = c.self.inside.network.now; number = c.self.inside.number; own_open = c.self.inside.own_open; peers = c.self.inside.peers.items; tables = c.self.inside.tables; marks = c.self.inside.marks; stamp = c.self.inside.stamp } in
+    let r = view_of c.self.inside in
     let found = subst (λ (x : RouterView). IsFound x.peers c.args.peer c.args.at) (sym c.self.view_is) c.peer_stands_at.ensures.found in
     let next : c.saturating_add-stamp.result ≡ max r.stamp c.args.item.now.stamp + 1 = omega (arith, c.if-stamp-gt-GREATEST_STAMP.false, c.max.ensures, c.saturating_add-stamp.ensures) in
     let p = c.index_mut.result.now in
@@ -112,7 +112,7 @@ returns-in_ok-room-in-Piece-clause-answers c =
 
 pub returns-in-Mark-clause-answers : goal.returns-in-Mark-clause-answers
 returns-in-Mark-clause-answers c =
-    let r : RouterView = record { net = c.self.inside.network.now; number = c.self.inside.number; own_open = c.self.inside.own_open; peers = c.self.inside.peers.items; tables = c.self.inside.tables; marks = c.self.inside.marks; stamp = c.self.inside.stamp } in
+    let r = view_of c.self.inside in
     let found = subst (λ (x : RouterView). IsFound x.peers c.args.peer c.args.at) (sym c.self.view_is) c.peer_stands_at.ensures.found in
     let next : c.saturating_add-stamp.result ≡ max r.stamp c.args.item.now.stamp + 1 = omega (arith, c.if-stamp-gt-GREATEST_STAMP.false, c.max.ensures, c.saturating_add-stamp.ensures) in
     let late : nat_lt GREATEST_STAMP (max r.stamp c.args.item.now.stamp + 1) ≡ false = grind (arith, nat_tests, c.if-stamp-gt-GREATEST_STAMP.false, next) in

@@ -7,7 +7,7 @@ use Rattle.router_model.specs.Settings.{peers}
 use Rattle.router_model.specs.Sides.{Side, is_up, uses}
 use Rattle.router_side.specs.SideOf.{side, side_opening}
 use Rattle.router_core.specs.declared.peers.Peer.{Peer}
-use Rattle.router_core.specs.Views.{RouterView, IsFound, TakesMark, sides_of, config_of}
+use Rattle.router_core.specs.Views.{view_of, RouterView, IsFound, TakesMark, sides_of, config_of}
 use Rattle.router_core.specs.Recorded.{RecordsAt}
 use Rattle.router_core.proofs.PeerLemmas.{side_here}
 use Rattle.router_core.proofs.Marking.{same_become}
@@ -22,7 +22,7 @@ returns-in_err-room-clause-takes c =
 
 pub returns-then-not-heeds-clause-takes : goal.returns-then-not-heeds-clause-takes
 returns-then-not-heeds-clause-takes c =
-    let r : RouterView = record { net = c.self.inside.network.now; number = c.self.inside.number; own_open = c.self.inside.own_open; peers = c.self.inside.peers.items; tables = c.self.inside.tables; marks = c.self.inside.marks; stamp = c.self.inside.stamp } in
+    let r = view_of c.self.inside in
     let place = subst (λ (x : RouterView). IsFound x.peers c.args.peer c.args.at) (sym c.self.view_is) c.requires.place in
     let stands : sides_of r c.args.peer ≡ side c.index.result.now.end =
     side_here (side_opening (config_of r.net) r.net.settings.width) r.peers c.args.peer c.args.at c.index.result.now place.2 ∙ ap (λ (w : Peer). side w.end) (sym c.index.ensures) in
@@ -32,7 +32,7 @@ returns-then-not-heeds-clause-takes c =
 
 pub returns-then-number-last-clause-takes : goal.returns-then-number-last-clause-takes
 returns-then-number-last-clause-takes c =
-    let r : RouterView = record { net = c.self.inside.network.now; number = c.self.inside.number; own_open = c.self.inside.own_open; peers = c.self.inside.peers.items; tables = c.self.inside.tables; marks = c.self.inside.marks; stamp = c.self.inside.stamp } in
+    let r = view_of c.self.inside in
     let place = subst (λ (x : RouterView). IsFound x.peers c.args.peer c.args.at) (sym c.self.view_is) c.requires.place in
     let stands : sides_of r c.args.peer ≡ side c.index.result.now.end =
     side_here (side_opening (config_of r.net) r.net.settings.width) r.peers c.args.peer c.args.at c.index.result.now place.2 ∙ ap (λ (w : Peer). side w.end) (sym c.index.ensures) in
@@ -44,13 +44,13 @@ returns-then-number-last-clause-takes c =
 
 pub on_mark-requires : goal.on_mark-requires
 on_mark-requires c =
-    let r : RouterView = record { net = c.self.inside.network.now; number = c.self.inside.number; own_open = c.self.inside.own_open; peers = c.self.inside.peers.items; tables = c.self.inside.tables; marks = c.self.inside.marks; stamp = c.self.inside.stamp } in
+    let r = view_of c.self.inside in
     let place = subst (λ (x : RouterView). IsFound x.peers c.args.peer c.args.at) (sym c.self.view_is) c.requires.place in
     record { link = is_link c.linked_routers_are_peers.ensures r c.self.invariant c.args.peer (sym (c.self.invariant.links c.args.peer) ∙ place.1) }
 
 pub invariant_of-self-2 : goal.invariant_of-self-2
 invariant_of-self-2 c =
-    let r : RouterView = record { net = c.self.inside.network.now; number = c.self.inside.number; own_open = c.self.inside.own_open; peers = c.self.inside.peers.items; tables = c.self.inside.tables; marks = c.self.inside.marks; stamp = c.self.inside.stamp } in
+    let r = view_of c.self.inside in
     let s = c.self.invariant in
     let m = c.on_mark.new.self in
     let marks : Marks r m =
@@ -62,7 +62,7 @@ invariant_of-self-2 c =
 
 pub returns-clause-takes : goal.returns-clause-takes
 returns-clause-takes c =
-    let r : RouterView = record { net = c.self.inside.network.now; number = c.self.inside.number; own_open = c.self.inside.own_open; peers = c.self.inside.peers.items; tables = c.self.inside.tables; marks = c.self.inside.marks; stamp = c.self.inside.stamp } in
+    let r = view_of c.self.inside in
     let place = subst (λ (x : RouterView). IsFound x.peers c.args.peer c.args.at) (sym c.self.view_is) c.requires.place in
     let stands : sides_of r c.args.peer ≡ side c.index.result.now.end =
     side_here (side_opening (config_of r.net) r.net.settings.width) r.peers c.args.peer c.args.at c.index.result.now place.2 ∙ ap (λ (w : Peer). side w.end) (sym c.index.ensures) in

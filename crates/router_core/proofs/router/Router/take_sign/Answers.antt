@@ -3,14 +3,14 @@ use Rattle.router_model.specs.Sides.{Side, Draft, NoMessage, draft_sign}
 use Rattle.router_side.specs.Drafts.{draft}
 use Rattle.router_side.specs.Freshness.{KeepsFresh}
 use Rattle.router_side.specs.SideOf.{side}
-use Rattle.router_core.specs.Views.{RouterView, IsFound, Carries, TakesSign, sides_of}
+use Rattle.router_core.specs.Views.{view_of, RouterView, IsFound, Carries, TakesSign, sides_of}
 use Rattle.router_core.proofs.Carrying.{keeps_here}
 use Rattle.router_core.proofs.Taking.{stands_at}
 use Rattle.router_core.proofs.router.Router.take_sign.Goals as goal
 
 pub carry_out-requires-clause-fresh : goal.carry_out-requires-clause-fresh
 carry_out-requires-clause-fresh c = λ o.
-    let r : RouterView = record { net = c.self.inside.network.now; number = c.self.inside.number; own_open = c.self.inside.own_open; peers = c.self.inside.peers.items; tables = c.self.inside.tables; marks = c.self.inside.marks; stamp = c.self.inside.stamp } in
+    let r = view_of c.self.inside in
     let found = subst (λ (x : RouterView). IsFound x.peers c.args.peer c.args.at) (sym c.self.view_is) c.requires in
     let p = c.index.result.now in
     subst (λ (x : RouterView). KeepsFresh (sides_of x c.args.peer) NoMessage (draft x.own_open NoMessage c.draft_sign-made.result)) c.self.view_is
@@ -19,7 +19,7 @@ carry_out-requires-clause-fresh c = λ o.
 
 pub returns-clause-takes : goal.returns-clause-takes
 returns-clause-takes c =
-    let r : RouterView = record { net = c.self.inside.network.now; number = c.self.inside.number; own_open = c.self.inside.own_open; peers = c.self.inside.peers.items; tables = c.self.inside.tables; marks = c.self.inside.marks; stamp = c.self.inside.stamp } in
+    let r = view_of c.self.inside in
     let v = c.args.peer in
     let found = subst (λ (x : RouterView). IsFound x.peers v c.args.at) (sym c.self.view_is) c.requires in
     let p = c.index.result.now in

@@ -14,18 +14,18 @@ use Rattle.run_model.specs.declared.stamps.TheConstants.{GREATEST_STAMP}
 use Rattle.router_side.specs.Sayings.{IsSayable}
 use Rattle.router_side.specs.SideOf.{side}
 use Rattle.router_core.specs.declared.peers.Peer.{Peer}
-use Rattle.router_core.specs.Views.{RouterView, IsAt, IsNamedAt, MayTell, Tells, sides_of, plain_of, told_to}
+use Rattle.router_core.specs.Views.{view_of, RouterView, IsAt, IsNamedAt, MayTell, Tells, sides_of, plain_of, told_to}
 use Rattle.router_core.specs.Calling.{no_step}
 use Rattle.router_core.proofs.NoStep.{ends_no_step}
 use Rattle.router_core.proofs.Places.{listed_here}
-use Rattle.router_core.proofs.Untold.{below, named, named_there, place, here, has_width, is_linked, up, number_is}
+use Rattle.router_core.proofs.Untold.{below, named, place, here, has_width, up, number_is}
 use Rattle.router_core.proofs.Tellings.{with_peer_and_tables, sound_still, plain_still, sound_told, plain_told}
 use Rattle.router_core.proofs.router.Router.tell.Goals as goal
 
 pub returns-in_err-stamp-clause-tells : goal.returns-in_err-stamp-clause-tells
 returns-in_err-stamp-clause-tells c =
     let p = err_from_is_err_and c.from_residual.result c.from_residual.ensures.1 in
-    let r : RouterView = record { net = c.self.inside.network.now; number = c.self.inside.number; own_open = c.self.inside.own_open; peers = c.self.inside.peers.items; tables = c.self.inside.tables; marks = c.self.inside.marks; stamp = c.self.inside.stamp } in
+    let r = view_of c.self.inside in
     let q = c.args.prefix.now in
     rw (p.1, p.2, c.in_err-stamp.ensures.refused)
     (subst (λ (x : RouterView). (v : ℕ) → IsAt x.peers v c.args.at → Tells (Err (no_step r.stamp)) x v q x) c.self.view_is (λ v at.
@@ -33,14 +33,14 @@ returns-in_err-stamp-clause-tells c =
 
 pub path_to_tell-requires-clause-named : goal.path_to_tell-requires-clause-named
 path_to_tell-requires-clause-named c =
-    let r : RouterView = record { net = c.self.inside.network.now; number = c.self.inside.number; own_open = c.self.inside.own_open; peers = c.self.inside.peers.items; tables = c.self.inside.tables; marks = c.self.inside.marks; stamp = c.self.inside.stamp } in
+    let r = view_of c.self.inside in
     let q = c.args.prefix.now in
     let may = subst (λ (x : RouterView). MayTell x c.args.at q) (sym c.self.view_is) c.requires.may in
     named r c.self.invariant c.args.at q may
 
 pub index_mut-requires : goal.index_mut-requires
 index_mut-requires c =
-    let r : RouterView = record { net = c.self.inside.network.now; number = c.self.inside.number; own_open = c.self.inside.own_open; peers = c.self.inside.peers.items; tables = c.self.inside.tables; marks = c.self.inside.marks; stamp = c.self.inside.stamp } in
+    let r = view_of c.self.inside in
     let q = c.args.prefix.now in
     let may = subst (λ (x : RouterView). MayTell x c.args.at q) (sym c.self.view_is) c.requires.may in
     let lt : c.args.at < length r.peers = below r c.self.invariant c.args.at q may in
@@ -48,7 +48,7 @@ index_mut-requires c =
 
 pub invariant_of-self : goal.invariant_of-self
 invariant_of-self c =
-    let r : RouterView = record { net = c.self.inside.network.now; number = c.self.inside.number; own_open = c.self.inside.own_open; peers = c.self.inside.peers.items; tables = c.self.inside.tables; marks = c.self.inside.marks; stamp = c.self.inside.stamp } in
+    let r = view_of c.self.inside in
     let q = c.args.prefix.now in
     let may = subst (λ (x : RouterView). MayTell x c.args.at q) (sym c.self.view_is) c.requires.may in
     let p = c.index_mut.result.now in
@@ -59,7 +59,7 @@ invariant_of-self c =
 
 pub returns-in_default-reserve_path-clause-tells : goal.returns-in_default-reserve_path-clause-tells
 returns-in_default-reserve_path-clause-tells c =
-    let r : RouterView = record { net = c.self.inside.network.now; number = c.self.inside.number; own_open = c.self.inside.own_open; peers = c.self.inside.peers.items; tables = c.self.inside.tables; marks = c.self.inside.marks; stamp = c.self.inside.stamp } in
+    let r = view_of c.self.inside in
     let q = c.args.prefix.now in
     let may = subst (λ (x : RouterView). MayTell x c.args.at q) (sym c.self.view_is) c.requires.may in
     let p = c.index_mut.result.now in
@@ -72,12 +72,12 @@ returns-in_default-reserve_path-clause-tells c =
 
 pub path_at-path-requires : goal.path_at-path-requires
 path_at-path-requires c =
-    let r : RouterView = record { net = c.self.inside.network.now; number = c.self.inside.number; own_open = c.self.inside.own_open; peers = c.self.inside.peers.items; tables = c.self.inside.tables; marks = c.self.inside.marks; stamp = c.self.inside.stamp } in
+    let r = view_of c.self.inside in
     record { stands = rw c.self.invariant.tabled.net (subst (λ (x : RouterView). IsNamedAt x.net c.args.prefix.now c.args.place) (sym c.self.view_is) c.requires.named) }
 
 pub tell_at-requires-clause-stands : goal.tell_at-requires-clause-stands
 tell_at-requires-clause-stands c =
-    let r : RouterView = record { net = c.self.inside.network.now; number = c.self.inside.number; own_open = c.self.inside.own_open; peers = c.self.inside.peers.items; tables = c.self.inside.tables; marks = c.self.inside.marks; stamp = c.self.inside.stamp } in
+    let r = view_of c.self.inside in
     let q = c.args.prefix.now in
     let may = subst (λ (x : RouterView). MayTell x c.args.at q) (sym c.self.view_is) c.requires.may in
     listed_here r c.args.at c.index_mut.result.now c.self.invariant (below r c.self.invariant c.args.at q may) c.index_mut.ensures.value
@@ -88,7 +88,7 @@ tell_at-requires-clause-named c =
 
 pub invariant_of-self-in_default-tell_at : goal.invariant_of-self-in_default-tell_at
 invariant_of-self-in_default-tell_at c =
-    let r : RouterView = record { net = c.self.inside.network.now; number = c.self.inside.number; own_open = c.self.inside.own_open; peers = c.self.inside.peers.items; tables = c.self.inside.tables; marks = c.self.inside.marks; stamp = c.self.inside.stamp } in
+    let r = view_of c.self.inside in
     let q = c.args.prefix.now in
     let may = subst (λ (x : RouterView). MayTell x c.args.at q) (sym c.self.view_is) c.requires.may in
     let p = c.index_mut.result.now in
@@ -99,7 +99,7 @@ invariant_of-self-in_default-tell_at c =
 
 pub returns-in_default-tell_at-clause-tells : goal.returns-in_default-tell_at-clause-tells
 returns-in_default-tell_at-clause-tells c =
-    let r : RouterView = record { net = c.self.inside.network.now; number = c.self.inside.number; own_open = c.self.inside.own_open; peers = c.self.inside.peers.items; tables = c.self.inside.tables; marks = c.self.inside.marks; stamp = c.self.inside.stamp } in
+    let r = view_of c.self.inside in
     let q = c.args.prefix.now in
     let may = subst (λ (x : RouterView). MayTell x c.args.at q) (sym c.self.view_is) c.requires.may in
     let p = c.index_mut.result.now in
@@ -113,7 +113,7 @@ returns-in_default-tell_at-clause-tells c =
 
 pub tell_path-requires-clause-up : goal.tell_path-requires-clause-up
 tell_path-requires-clause-up c =
-    let r : RouterView = record { net = c.self.inside.network.now; number = c.self.inside.number; own_open = c.self.inside.own_open; peers = c.self.inside.peers.items; tables = c.self.inside.tables; marks = c.self.inside.marks; stamp = c.self.inside.stamp } in
+    let r = view_of c.self.inside in
     let q = c.args.prefix.now in
     let may = subst (λ (x : RouterView). MayTell x c.args.at q) (sym c.self.view_is) c.requires.may in
     let p = c.index_mut.result.now in
@@ -124,7 +124,7 @@ tell_path-requires-clause-up c =
 
 pub tell_path-requires-clause-sayable : goal.tell_path-requires-clause-sayable
 tell_path-requires-clause-sayable c =
-    let r : RouterView = record { net = c.self.inside.network.now; number = c.self.inside.number; own_open = c.self.inside.own_open; peers = c.self.inside.peers.items; tables = c.self.inside.tables; marks = c.self.inside.marks; stamp = c.self.inside.stamp } in
+    let r = view_of c.self.inside in
     let q = c.args.prefix.now in
     let may = subst (λ (x : RouterView). MayTell x c.args.at q) (sym c.self.view_is) c.requires.may in
     let p = c.index_mut.result.now in
@@ -133,7 +133,7 @@ tell_path-requires-clause-sayable c =
 
 pub invariant_of-self-2 : goal.invariant_of-self-2
 invariant_of-self-2 c =
-    let r : RouterView = record { net = c.self.inside.network.now; number = c.self.inside.number; own_open = c.self.inside.own_open; peers = c.self.inside.peers.items; tables = c.self.inside.tables; marks = c.self.inside.marks; stamp = c.self.inside.stamp } in
+    let r = view_of c.self.inside in
     let q = c.args.prefix.now in
     let may = subst (λ (x : RouterView). MayTell x c.args.at q) (sym c.self.view_is) c.requires.may in
     let p = c.index_mut.result.now in
@@ -150,7 +150,7 @@ invariant_of-self-2 c =
 
 pub returns-clause-tells : goal.returns-clause-tells
 returns-clause-tells c =
-    let r : RouterView = record { net = c.self.inside.network.now; number = c.self.inside.number; own_open = c.self.inside.own_open; peers = c.self.inside.peers.items; tables = c.self.inside.tables; marks = c.self.inside.marks; stamp = c.self.inside.stamp } in
+    let r = view_of c.self.inside in
     let q = c.args.prefix.now in
     let may = subst (λ (x : RouterView). MayTell x c.args.at q) (sym c.self.view_is) c.requires.may in
     let p = c.index_mut.result.now in

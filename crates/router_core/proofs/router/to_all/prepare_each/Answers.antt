@@ -27,7 +27,7 @@ loop-peer-preserved c =
     let l = c.loop-peer in
     let p = c.peer-item.result in
     let q : Peer = record { number = (get_or l.peers l.peer-index p).number; end = c.reserve.new.self } in
-    let D = draft_by c.args.whole c.args.own_open.now in
+    let D = draft_by c.args.event c.args.own_open.now in
     let made = c.drafted-made.result in
     record {
       same = passed_next (λ s. s) l.peer-index c.args.peers.now l.peers p q l.invariant.same (omega (arith, c.loop-peer-test.true)) refl c.reserve.ensures.side;
@@ -43,4 +43,4 @@ returns-clause-same c = passed_same c.loop-peer.peer-index c.args.peers.now c.lo
 pub returns-clause-ready : goal.returns-clause-ready
 returns-clause-ready c =
     let done = c.loop-peer-test.false in
-    ready_all c.args.own_open.now (draft_by c.args.whole c.args.own_open.now) c.loop-peer.peer-index c.loop-peer.peers c.loop-peer.drafts.items c.loop-peer.invariant.ready (omega (arith, done))
+    ready_all c.args.own_open.now (draft_by c.args.event c.args.own_open.now) c.loop-peer.peer-index c.loop-peer.peers c.loop-peer.drafts.items c.loop-peer.invariant.ready (omega (arith, done))

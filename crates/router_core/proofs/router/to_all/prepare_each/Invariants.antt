@@ -7,5 +7,5 @@ use Rattle.router_core.proofs.router.to_all.prepare_each.Given as goal
 abbrev pub invariant-loop-peer : goal.invariant-loop-peer
 invariant-loop-peer l = record {
   same : Passed (λ s. s) l.peer-index l.fn.peers l.peers;
-  ready : ReadyBelow l.fn.own_open (draft_by l.whole l.fn.own_open) l.peer-index l.peers l.drafts.items;
+  ready : ReadyBelow l.fn.own_open (draft_by l.event l.fn.own_open) l.peer-index l.peers l.drafts.items;
 }
