@@ -28,7 +28,6 @@ use Rattle.router_runs.specs.Doing.{is_up_in}
 use Rattle.router_runs.specs.Mirrors.{ModelRouter, AreAlike, Mirrors, Mirrored, Copied, RunsAreMirrored, MirrorsGoOn, RecordingsAreMirrored}
 use Rattle.router_runs.specs.SnapshotLaws.{SnapshotLaws}
 use Rattle.session_fsm.specs.declared.state.State.{State}
-use Rattle.session_fsm.specs.declared.state.State.TheVariants as state
 use Rattle.router_runs.specs.Snapshots.{HasMade, RecordedAt, IsPartOf, IsCutLink, IsCutOf, PartsAreOfACut, ComesOut, DecidedHasAllParts, MismatchNeverComes, SettledIsStable, SettledStays, SettledSnapshotsCanBeBelieved, SnapshotsHoldInRuns}
 use Rattle.router_runs.proofs.Lower.{Laws}
 use Rattle.router_runs.proofs.Hanging.{up_is}

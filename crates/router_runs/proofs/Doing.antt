@@ -1,7 +1,6 @@
 -- One event of a session, and several.
 use Rattle.std.proofs.Common.{◌≡◌, Bool, true, false, ◌&&◌, ◌||◌, not, List, [], ◌∷◌, ◌++◌, refl, ap, sym, ◌∙◌, append_assoc, subst, inl, inr, ◌⊎◌, arith}
 use Rattle.session_fsm.specs.declared.state.State.{State}
-use Rattle.session_fsm.specs.declared.state.State.TheVariants as state
 use Rattle.std.proofs.lemmas.List.{append-nil}
 use Rattle.bgp_codec.specs.declared.message.Message.{Message}
 use Rattle.run_model.specs.Links.{Entry, End, Move, after}

@@ -17,7 +17,7 @@ use Rattle.router_model.specs.Settings.{Setting}
 use Rattle.router_runs.specs.Model.{network_of}
 use Rattle.router_runs.specs.Mirrors.{ModelRouter, ModelEvent, Local, MayLocal, IsLocalRun, local_after, queued_by, IsLocallyQuiet, Goes}
 use Rattle.router_runs.proofs.Acts.{IsQuiet, AllQuiet, plain}
-use Rattle.router_runs.proofs.Hanging.{loses, lost_number}
+use Rattle.router_runs.proofs.Hanging.{loses, lost_number, none_and, and_all}
 use Rattle.router_runs.proofs.Using.{uses}
 use Rattle.router_runs.proofs.Lower.{Laws}
 
@@ -109,29 +109,10 @@ module _ (laws : Laws) (g : Setting) (u v : ℕ) (apart : u ≢ v) (far : ℕ �
   queues_one : (n : ModelRouter) (m : Move Message) → IsQuiet laws m
       → Queues (network_of g) u n (move_event m) (lost_by_close (links.is_up (n.recorder.ends v) && hangs_up m) n.recorder.unfinished v (incarnation (n.recorder.ends v)))
   queues_one n Dials q = ap (λ b. lost_by_close b n.recorder.unfinished v (incarnation (n.recorder.ends v))) (none_and (links.is_up (n.recorder.ends v)))
-    where
-      none_and : (p : Bool) → (p && false) ≡ false
-      none_and true = refl
-      none_and false = refl
   queues_one n (Tells m) q = ap (λ b. lost_by_close b n.recorder.unfinished v (incarnation (n.recorder.ends v))) (none_and (links.is_up (n.recorder.ends v)))
-    where
-      none_and : (p : Bool) → (p && false) ≡ false
-      none_and true = refl
-      none_and false = refl
   queues_one n (Marks k) q = absurd q
   queues_one n HangsUp q = ap (λ b. lost_by_close b n.recorder.unfinished v (incarnation (n.recorder.ends v))) (and_all (links.is_up (n.recorder.ends v)))
-    where
-      and_all : (p : Bool) → (p && true) ≡ p
-      and_all true = refl
-      and_all false = refl
   queues_one n (Takes x) q = ap (λ b. lost_by_close b n.recorder.unfinished v (incarnation (n.recorder.ends v))) (none_and (links.is_up (n.recorder.ends v)))
-    where
-      none_and : (p : Bool) → (p && false) ≡ false
-      none_and true = refl
-      none_and false = refl
-
-  leaves_is : (n : ModelRouter) (m : Move Message) → (links.is_up (n.recorder.ends v) && hangs_up m) ≡ false → IsQuietEvent n (move_event m)
-  leaves_is n m h = h
 
   twice : (b w : Bool) (old first then : List Message) → cond b (cond w (cond b (cond w (old ++ first) old) old ++ then) (cond b (cond w (old ++ first) old) old)) (cond b (cond w (old ++ first) old) old)
       ≡ cond b (cond w (old ++ (first ++ then)) old) old

@@ -1,6 +1,7 @@
 -- The moves of a session's events that hang up while the session is up.
 use Rattle.std.proofs.Common.{◌≡◌, ℕ, ◌<◌, ◌==◌, Bool, true, false, ◌&&◌, ◌||◌, cond, List, [], ◌∷◌, ◌++◌, length, refl, ap, sym, ◌∙◌, arith}
 use Rattle.std.specs.Prelude.{nat_lt}
+use Rattle.std.proofs.lemmas.Bool.{false_from_ne_true}
 use Rattle.std.proofs.lemmas.Bool.Decides.{nat_tests}
 use Rattle.bgp_codec.specs.declared.message.Message.{Message}
 use Rattle.run_model.specs.Links as links
@@ -41,46 +42,26 @@ number_append (m ∷ ms) ns a =
     ap (λ k. cond (links.is_up a && hangs_up m) (incarnation a) k) (number_append ms ns (links.after a m))
     ∙ choose (links.is_up a && hangs_up m) (loses (links.after a m) ms) (incarnation a) (lost_number (links.after a m) ms) (lost_number (afters (links.after a m) ms) ns)
 
-none_and : (p : Bool) → (p && false) ≡ false
+pub none_and : (p : Bool) → (p && false) ≡ false
 none_and true = refl
 none_and false = refl
 
-or_none : (p : Bool) → (p || false) ≡ p
+pub or_none : (p : Bool) → (p || false) ≡ p
 or_none true = refl
 or_none false = refl
 
-and_all : (p : Bool) → (p && true) ≡ p
+pub and_all : (p : Bool) → (p && true) ≡ p
 and_all true = refl
 and_all false = refl
 
 module _ (laws : Laws) where
   pub up_is : (st : SessionState) (a : End Message) → Fits st a → links.is_up a ≡ is_up_in st
   up_is model.Established a f = (laws.up model.Established a f).0 refl
-  up_is model.Idle a f = at (links.is_up a) refl
-    where
-      at : (b : Bool) → links.is_up a ≡ b → b ≡ false
-      at true h = absurd (let k = (laws.up model.Idle a f).1 h in cc k)
-      at false h = refl
-  up_is model.Connect a f = at (links.is_up a) refl
-    where
-      at : (b : Bool) → links.is_up a ≡ b → b ≡ false
-      at true h = absurd (let k = (laws.up model.Connect a f).1 h in cc k)
-      at false h = refl
-  up_is model.Active a f = at (links.is_up a) refl
-    where
-      at : (b : Bool) → links.is_up a ≡ b → b ≡ false
-      at true h = absurd (let k = (laws.up model.Active a f).1 h in cc k)
-      at false h = refl
-  up_is model.OpenSent a f = at (links.is_up a) refl
-    where
-      at : (b : Bool) → links.is_up a ≡ b → b ≡ false
-      at true h = absurd (let k = (laws.up model.OpenSent a f).1 h in cc k)
-      at false h = refl
-  up_is model.OpenConfirm a f = at (links.is_up a) refl
-    where
-      at : (b : Bool) → links.is_up a ≡ b → b ≡ false
-      at true h = absurd (let k = (laws.up model.OpenConfirm a f).1 h in cc k)
-      at false h = refl
+  up_is model.Idle a f = false_from_ne_true (links.is_up a) (λ h. let k = (laws.up model.Idle a f).1 h in cc k)
+  up_is model.Connect a f = false_from_ne_true (links.is_up a) (λ h. let k = (laws.up model.Connect a f).1 h in cc k)
+  up_is model.Active a f = false_from_ne_true (links.is_up a) (λ h. let k = (laws.up model.Active a f).1 h in cc k)
+  up_is model.OpenSent a f = false_from_ne_true (links.is_up a) (λ h. let k = (laws.up model.OpenSent a f).1 h in cc k)
+  up_is model.OpenConfirm a f = false_from_ne_true (links.is_up a) (λ h. let k = (laws.up model.OpenConfirm a f).1 h in cc k)
 
   -- telling a message leaves the number, and the session as up as it was, where it said enough before or used too little
   told_number : (a : End Message) (m : Message) → incarnation (links.after a (Tells m)) ≡ incarnation a

@@ -252,11 +252,10 @@ module _ (laws : Laws) where
         | inr other ↦ elim other.1 [
           | inl first ↦ elim first.choice.permitted [
             | inl origin ↦ absurd (other.0 origin.0)
-            | inr best_path ↦ inr (record {
-              begins = (words first.choice.peer, first.choice.goes_on ∙ ap (λ i. i ∷ words first.choice.peer) number);
-              short = best_path.1.short;
-              small = subst (NumbersFit g) (sym (first.choice.goes_on ∙ ap (λ i. i ∷ words first.choice.peer) number)) (small, all first.choice.peer);
-            })
+            | inr best_path ↦
+                let rest = words first.choice.peer in
+                let is : path ≡ u ∷ rest = first.choice.goes_on ∙ ap (λ r. best.0.router ∷ r) first.choice.heard.1 ∙ ap (λ i. i ∷ rest) number in
+                inr (record { begins = (rest, is); short = best_path.1.short; small = subst (NumbersFit g) (sym is) (small, all first.choice.peer) })
           ]
           | inr none ↦ inl none.0
         ]

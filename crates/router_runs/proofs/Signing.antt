@@ -197,11 +197,6 @@ module _ (laws : Laws) where
       (λ c appends takes y. by_event laws (hung_side s session) (carried NoMessage s (ended s session left)) c b (Passes (Shut e)) (Takes (Shut e) ∷ []) y
       (later laws a c b (Shut e) takes next, λ j. absurd (let p : c.phase ≡ links.Closed = y.reads.phase in cc (p, j))) refl refl (rw hit refl) refl refl)
 
-  shut_true : (p q : Bool) → (p && q) ≡ true → (p ≡ true) × (q ≡ true)
-  shut_true true true h = (refl, refl)
-  shut_true true false h = absurd (cc h)
-  shut_true false q h = absurd (cc h)
-
   differ : (s : Side) (e : ℕ) (a b : End Message) → (e == s.link.heard) ≡ true → (e == s.link.epoch) ≡ false → heard_number a ≡ incarnation a → s.link.epoch ≡ incarnation a → s.link.heard ≡ heard_number a → ⊥
   differ s e a b hp hq own re rh = (let same : s.link.heard ≡ s.link.epoch = rh ∙ (own ∙ sym re) in cc (hp, hq, same))
 

@@ -118,10 +118,6 @@ pub record Goes (g : Setting) (u : ℕ) (far : ℕ → End Message) (Still : Typ
   pub queues : queued_by events ≡ offers
   pub calm : (s : ℕ) → (Still ⊎ (n.recorder.copy s ≡ None)) → IsLocallyQuiet g u s n events
 
--- what stands as recorded stayed, or is the router as it is now, under a number above its last
-abbrev pub IsRecordedAs : ModelRouter → ModelRouter → ℕ → (ℕ → End Message) → Type 0
-IsRecordedAs n m k c = (m.recorder.copy k ≡ Some c) × (m.kept_at k ≡ n.kept_at k) × (m.originated_at k ≡ n.originated_at k)
-
 pub record Recorded (n m : ModelRouter) (low high : ℕ) : Type 0 where
   -- nothing that was recorded is forgotten
   pub kept : (k : ℕ) (c : ℕ → End Message) → n.recorder.copy k ≡ Some c → (d : ℕ → End Message) × (m.recorder.copy k ≡ Some d)

@@ -72,8 +72,7 @@ pub fn runs_keep()
 /// the peer is joined in the incarnation, it holds what it took behind those octets. The UPDATEs acted on are a
 /// beginning of those sent.
 ///
-/// Premises: the network is one (`IsNetwork`), routers choose by rank, the hold time fits an OPEN. It does not say that anything
-/// arrives.
+/// Premises: `IsNetwork`, routers choose by rank, the hold time fits an OPEN. It does not say that anything arrives.
 pub fn updates_pass_in_order()
     ensures { UpdatesPassInOrder }
 {
@@ -110,8 +109,8 @@ pub fn quiet_steps_are_acts()
 /// Each network has a setting in which every router chooses by rank, by the function of [`best_by_rank_is_best`]. The
 /// promises of runs, whose premise is such a setting, thus speak of every network.
 ///
-/// Premises: the network is one (`IsNetwork`). For the setting of the promises (`IsSetting`) the hold time fits an
-/// OPEN; that of every network in the code does, since it is a `u16`.
+/// Premise: `IsNetwork`. For the setting of the promises (`IsSetting`) the hold time fits an OPEN; that of every
+/// network in the code does, since it is a `u16`.
 pub fn each_network_has_a_setting()
     ensures { EachNetworkHasASetting }
 {

@@ -37,8 +37,8 @@ fn snapshot_laws_below()
 /// session left Established, and no command but a snapshot came, at a router after its recording (`stays`). All of this
 /// together is `believed`, and for one run `hold`.
 ///
-/// Premises: the network is one, routers choose by rank, the hold time fits an OPEN; each offer is made in its router's order. It does
-/// not say that a snapshot is ever decided, nor which stable assignment is found.
+/// Premises: `IsNetwork`, routers choose by rank, the hold time fits an OPEN; each offer is made in its router's order.
+/// It does not say that a snapshot is ever decided, nor which stable assignment is found.
 pub fn snapshots_of_runs()
     ensures cut { PartsAreOfACut }
     ensures all { DecidedHasAllParts }

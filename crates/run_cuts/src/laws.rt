@@ -37,8 +37,8 @@ fn laws_below()
 /// router is as it recorded, but for those puts, and each channel is what was recorded of it. At the end all is as at
 /// the end of the run, but for the order of the offers for other snapshots.
 ///
-/// Premises: the network is one, routers choose by rank, the hold time fits an OPEN. It does not say that a snapshot is
-/// ever decided.
+/// Premises: `IsNetwork`, routers choose by rank, the hold time fits an OPEN. It does not say that a snapshot is ever
+/// decided.
 pub fn runs_pass_through_snapshots()
     ensures through { RunsPassThroughSnapshots }
     ensures decided { DecidedRunsPassThrough }
