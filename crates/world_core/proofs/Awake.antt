@@ -1,5 +1,5 @@
 -- A router that rests does so until a turn of a peer does something.
-use Rattle.std.proofs.Common.{◌≡◌, ◌≢◌, ℕ, zero, suc, ◌+◌, ◌<◌, ◌≤◌, ◌==◌, Bool, true, false, ◌&&◌, cond, List, [], ◌∷◌, ◌++◌, drop, length, get_or, refl, ap, sym, ◌∙◌, arith, subst, Option, None, Some}
+use Rattle.std.proofs.Common.{◌≡◌, ◌≢◌, ℕ, zero, suc, ◌+◌, ◌<◌, ◌≤◌, ◌==◌, Bool, true, false, ◌&&◌, cond, List, [], ◌∷◌, ◌++◌, drop, length, map, get_or, refl, ap, sym, ◌∙◌, arith, subst, Option, None, Some}
 use Rattle.std.specs.Prelude.{nat_lt, max, Ok, slice_get}
 use Rattle.std.specs.List.{flat_map, AllByRecursion, AllPairs, HoldsAt}
 use Rattle.std.proofs.lemmas.Bool.{eqb-true, eqb-false}
@@ -21,6 +21,7 @@ use Rattle.run_model.specs.declared.stamps.TheConstants.{GREATEST_STAMP}
 use Rattle.world_core.specs.declared.schedule.Event.{Event}
 use Rattle.world_core.specs.declared.schedule.Event.TheVariants as schedule
 use Rattle.world_core.specs.declared.schedule.StepFault.TheVariants.{NoSuchRouter, Refused}
+use Rattle.world_core.specs.Events.{router_of}
 use Rattle.world_core.specs.World.{World, WorldAnswer, Does, Nothing, Stops, of_answer, of_offer, called, taking_of, where_router, where_linked, world_answer, world_after, world_of, onward, played, name_of}
 use Rattle.world_core.specs.Orders.{with_peer, turn}
 use Rattle.world_core.specs.Views.{WorldView, plain_world, Obeys}
@@ -29,16 +30,6 @@ use Rattle.world_core.proofs.Playing.{doing}
 use Rattle.world_core.proofs.Resting.{grows, rests}
 
 -- ---- what an event depends on: its router, and the pipes that lead to it
-
-abbrev pub router_of : Event → ℕ
-router_of (schedule.Command u c) = u
-router_of (schedule.Tick u) = u
-router_of (schedule.Put u v) = u
-router_of (schedule.Take u v) = u
-router_of (schedule.Handle u v) = u
-router_of (schedule.Decide u) = u
-router_of (schedule.Advertise u) = u
-router_of (schedule.Offer u) = u
 
 -- the router is as it was, and so are the pipes that lead to it
 abbrev pub IsSpared : World → World → ℕ → Type 0
@@ -278,10 +269,10 @@ numbered (r ∷ routers) (suc place) v l holds = numbered routers place v (omega
 pub number_at : (routers : List NetRouter) (place v : ℕ) → (place < length routers) × HoldsAt (λ r. r.asn ≡ v) routers place → slice_get (numbers routers) place ≡ Some v
 number_at routers place v h = numbered routers place v h.0 h.1
 
-pub router_at : (routers : List NetRouter) (i : ℕ) (r : NetRouter) → i < length routers → r ≡ get_or routers i r → slice_get (numbers routers) i ≡ Some r.asn
-router_at [] i r l is = absurd (omega arith)
-router_at (s ∷ routers) zero r l is = ap (λ (k : NetRouter). Some k.asn) (sym is)
-router_at (s ∷ routers) (suc i) r l is = router_at routers i r (omega arith) is
+pub read_here : {A : Type 0} (number : A → ℕ) (xs : List A) (i : ℕ) (x : A) → i < length xs → x ≡ get_or xs i x → slice_get (map number xs) i ≡ Some (number x)
+read_here number [] i x l is = absurd (omega arith)
+read_here number (y ∷ xs) zero x l is = ap (λ k. Some (number k)) (sym is)
+read_here number (y ∷ xs) (suc i) x l is = read_here number xs i x (omega arith) is
 
 pub woken_at : (net : Plan) (v place : ℕ) (old new : List Bool) → IsNetwork net → slice_get (numbers net.routers) place ≡ Some v → (slice_get new place ≡ Some true → ⊥)
     → ((other : ℕ) → other ≢ place → slice_get new other ≡ slice_get old other) → Woken net v old new

@@ -23,6 +23,8 @@ use Rattle.run_cuts.specs.Choices.{IsChosen, HasRoom, IsChosenRun, ChosenRunsPas
 use Rattle.world_core.specs.declared.schedule.Event.{Event}
 use Rattle.world_core.specs.declared.schedule.Event.TheVariants as schedule
 use Rattle.world_core.specs.World.{World, new_world, WorldAnswer, Does, Nothing, Stops, of_offer, called, taking_of, world_answer, world_after, world_of, onward, played, named, AgreesWith}
+use Rattle.world_core.specs.Keeping.{WhatIsPlayedIsARun}
+use Rattle.world_core.specs.Tested.{test_of, world_next, tested}
 use Rattle.world_core.specs.Replays.{IsCalled, IsCalledRun, AnswersAreCalled, WorldsHaveTheirRuns, NoneIsFull, CutsArePlayed}
 use Rattle.world_core.proofs.Playing.{doing, followed, answered, router_there, link_there, is_there}
 use Rattle.world_core.proofs.Replaying.{same_test, chosen_runs_are_played}
@@ -90,44 +92,63 @@ module _ (answers : AnswersAreSteps) (g : Setting) (net : IsNetwork g.net) (w : 
 
 -- ---- a whole schedule
 
-record Reached (g : Setting) (w end : World) (state : RunState) : Type 0 where
-  pub order : RunOrder
-  pub last : RunState
-  pub run : IsCalledRun g state order last
-  pub events : end.run ≡ w.run ++ named order
-  pub agrees : AgreesWith g end last
+module _ (g : Setting) (s : ℕ) where
+  -- the tests of a run
+  abbrev pub tests : (old : RunState) (ds : RunOrder) (new : RunState) → IsCalledRun g old ds new → List Bool
+  tests old [] new r = []
+  tests old (d ∷ ds) new r = nat_lt (old.routers d.router).router.snapshots.last s ∷ tests r.0 ds new r.3
 
-module _ (answers : AnswersAreSteps) (g : Setting) (net : IsNetwork g.net) where
-  by_answer : (event : Event) (events : List Event) (w end : World) (state : RunState) (at : ℕ) (a : WorldAnswer)
-      → ((w2 : World) (state2 : RunState) → AgreesWith g w2 state2 → played g w2 (at + 1) events ≡ Ok end → Reached g w2 end state2)
-      → world_answer g w event ≡ a → AgreesWith g w state → onward (world_of g w event at a) (λ w2. played g w2 (at + 1) events) ≡ Ok end → Reached g w end state
-  by_answer event events w end state at (Does u e stamp) go is agrees h =
-      let d = doing answers g net w event u e stamp is in
-      let c : IsCalled g u (state.routers u).router e = subst (λ r. IsCalled g u r e) (agrees.routers u (is_there answers g u d.known)) (calling answers g net w event u e stamp is) in
-      let f = followed answers g w event u e stamp state agrees d in
-      let r = go (world_after g w event u e stamp) f.state_after f.agrees h in
-      record {
-        order = record { router = u; event = e } ∷ r.order;
-        last = r.last;
-        run = (f.state_after, f.does, c, r.run);
-        events = r.events ∙ append_assoc w.run (event ∷ []) (named r.order) ∙ ap (λ k. w.run ++ k ∷ named r.order) (sym d.name);
-        agrees = r.agrees;
-      }
-  by_answer event events w end state at Nothing go is agrees h = go w state agrees h
-  by_answer event events w end state at (Stops fault) go is agrees h = absurd cc
+  pub record Reached (w end : World) (state : RunState) (events : List Event) : Type 0 where
+    pub order : RunOrder
+    pub last : RunState
+    pub run : IsCalledRun g state order last
+    pub did : end.run ≡ w.run ++ named order
+    pub agrees : AgreesWith g end last
+    pub tested_so : tested g s w events ≡ tests state order last run
 
-  reached : (events : List Event) (w end : World) (state : RunState) (at : ℕ) → AgreesWith g w state → played g w at events ≡ Ok end → Reached g w end state
-  reached [] w end state at agrees h =
-      let same : w ≡ end = cc in
-      subst (λ k. Reached g w k state) same (record { order = []; last = state; run = refl; events = sym (append-nil w.run); agrees = agrees })
-  reached (event ∷ events) w end state at agrees h =
-      by_answer event events w end state at (world_answer g w event) (λ w2 state2 a2 h2. reached events w2 end state2 (at + 1) a2 h2) refl agrees h
+  module _ (answers : AnswersAreSteps) (net : IsNetwork g.net) where
+    by_answer : (event : Event) (events : List Event) (w end : World) (state : RunState) (at : ℕ) (a : WorldAnswer)
+        → ((w2 : World) (state2 : RunState) → AgreesWith g w2 state2 → played g w2 (at + 1) events ≡ Ok end → Reached w2 end state2 events)
+        → world_answer g w event ≡ a → AgreesWith g w state → onward (world_of g w event at a) (λ w2. played g w2 (at + 1) events) ≡ Ok end → Reached w end state (event ∷ events)
+    by_answer event events w end state at (Does u e stamp) go is agrees h =
+        let d = doing answers g net w event u e stamp is in
+        let same = agrees.routers u (is_there answers g u d.known) in
+        let c : IsCalled g u (state.routers u).router e = subst (λ r. IsCalled g u r e) same (calling answers g net w event u e stamp is) in
+        let f = followed answers g w event u e stamp state agrees d in
+        let r = go (world_after g w event u e stamp) f.state_after f.agrees h in
+        record {
+          order = record { router = u; event = e } ∷ r.order;
+          last = r.last;
+          run = (f.state_after, f.does, c, r.run);
+          did = r.did ∙ append_assoc w.run (event ∷ []) (named r.order) ∙ ap (λ k. w.run ++ k ∷ named r.order) (sym d.name);
+          agrees = r.agrees;
+          tested_so = ap (λ a. test_of g s w a ++ tested g s (world_next g s w event a) events) is
+              ∙ (λ i. nat_lt (same i).snapshots.last s ∷ r.tested_so i);
+        }
+    by_answer event events w end state at Nothing go is agrees h =
+        let r = go w state agrees h in
+        record {
+          order = r.order;
+          last = r.last;
+          run = r.run;
+          did = r.did;
+          agrees = r.agrees;
+          tested_so = ap (λ a. test_of g s w a ++ tested g s (world_next g s w event a) events) is ∙ r.tested_so;
+        }
+    by_answer event events w end state at (Stops fault) go is agrees h = absurd cc
+
+    pub reached : (events : List Event) (w end : World) (state : RunState) (at : ℕ) → AgreesWith g w state → played g w at events ≡ Ok end → Reached w end state events
+    reached [] w end state at agrees h =
+        let same : w ≡ end = cc in
+        subst (λ k. Reached w k state []) same (record { order = []; last = state; run = refl; did = sym (append-nil w.run); agrees = agrees; tested_so = refl })
+    reached (event ∷ events) w end state at agrees h =
+        by_answer event events w end state at (world_answer g w event) (λ w2 state2 a2 h2. reached events w2 end state2 (at + 1) a2 h2) refl agrees h
 
 pub worlds_have_their_runs : AnswersAreSteps → WorldsHaveTheirRuns
 worlds_have_their_runs answers g set events w h =
     let first : AgreesWith g (new_world g) (runs.opening (λ u. new_logged g)) = record { routers = λ u k. refl; pipes = λ a b. refl; offers_made = λ s. refl } in
-    let r = reached answers g set.network events (new_world g) w (runs.opening (λ u. new_logged g)) 0 first h in
-    record { order = r.order; state = r.last; run = r.run; events = sym r.events; agrees = r.agrees }
+    let r = reached g 0 answers set.network events (new_world g) w (runs.opening (λ u. new_logged g)) 0 first h in
+    record { order = r.order; state = r.last; run = r.run; events = sym r.did; agrees = r.agrees }
 
 -- ---- where no outbox is full, calls choose as if none could be
 
@@ -161,6 +182,11 @@ module _ (g : Setting) where
         room,
         chosen order (before ++ d ∷ []) ds r.0 new (is ∙ sym (append_assoc before (d ∷ []) ds)) none (run_more before d (runs.opening (λ u. new_logged g)) old r.0 to r.1) r.3,
       )
+
+pub what_is_played_is_a_run : AnswersAreSteps → WhatIsPlayedIsARun
+what_is_played_is_a_run answers g set events w h =
+    let r = worlds_have_their_runs answers g set events w h in
+    record { order = r.order; state = r.state; run = run_of g r.order (runs.opening (λ u. new_logged g)) r.state r.run; events = r.events; agrees = r.agrees }
 
 -- a list taken apart is as long as its parts
 as_long : {A : Type 0} (xs ys zs : List A) → Interleaves xs ys zs → length (xs ++ ys) ≡ length zs

@@ -12,7 +12,7 @@ use Rattle.run_cuts.specs.ThroughSnapshot.{RunsPassThroughSnapshots}
 use Rattle.world_core.specs.declared.schedule.Event.{Event}
 use Rattle.world_core.specs.World.{World, WorldAnswer, Does, Nothing, Stops, new_world, world_answer, world_after, world_of, onward, played, IsReplayed, IsRunOfWorld}
 use Rattle.world_core.specs.Keeping.{PlayedWorldsKeepTheirPromises, WhatIsPlayedIsReplayed, StepsAreReplayed}
-use Rattle.world_core.proofs.Playing.{what_is_played_is_a_run}
+use Rattle.world_core.proofs.Calling.{what_is_played_is_a_run}
 
 -- ---- one event more
 

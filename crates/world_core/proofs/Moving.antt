@@ -130,26 +130,25 @@ moved : WorldView → (i : ℕ) → RouterView → (to : ℕ) → Inbox → List
 moved x i y to new run = record x { routers = set x.routers i y; inboxes = set x.inboxes to new; run = run }
 
 pub put_steps : AnswersAreSteps → (x : WorldView) (u v i to k : ℕ) (xr y : RouterView) (old new : Inbox) (p q : Pipe) (run : List Event) (r : Result Stepped StepFault)
-    → IsWhole x → StandsAt x u i → PipeAt x v u to k old new p q → xr ≡ get_or x.routers i xr → EntersPut r xr x.run p.items.items (schedule.Put u v) v y run q.items.items → IsSame xr y
+    → StandsAt x u i → PipeAt x v u to k old new p q → xr ≡ get_or x.routers i xr → EntersPut r xr x.run p.items.items (schedule.Put u v) v y run q.items.items → IsSame xr y
     → Answers r x (schedule.Put u v) (record x { routers = set x.routers i y; inboxes = set x.inboxes to new; run = run })
-put_steps law x u v i to k xr y old new p q run r whole at pipe is enters same g e ranks =
-    let s = stands x u i xr whole at is in
+put_steps law x u v i to k xr y old new p q run r at pipe is enters same g e ranks =
+    let s = stands x u i xr at is in
     let num : y.number ≡ u = same.number ∙ s.0 in
     let w = plain_world x in
     let z = plain_world (record x { routers = set x.routers i y; inboxes = set x.inboxes to new; run = run }) in
     let call = Put v in
     let stamp = stamp_of g u (routers_of x u) call in
     let event = schedule.Put u v in
-    let net : (j : ℕ) → Entered r (answer g j (plain_of xr) call) (λ d. (plain_of y ≡ stamped_after g j (plain_of xr) call d) × (run ≡ x.run ++ event ∷ []) × (q.items.items ≡ piped j (stamp_of g j (plain_of xr) call) d j v p.items.items)) ((plain_of y ≡ plain_of xr) × (run ≡ x.run) × (q.items.items ≡ p.items.items)) → j ≡ u
-    → Entered r (answer g u (routers_of x u) call) (λ d. (plain_of y ≡ stamped_after g u (routers_of x u) call d) × (run ≡ x.run ++ event ∷ []) × (q.items.items ≡ piped u stamp d u v p.items.items)) ((plain_of y ≡ routers_of x u) × (run ≡ x.run) × (q.items.items ≡ p.items.items)) =
-    λ j h o. subst (λ t. Entered r (answer g u t call) (λ d. (plain_of y ≡ stamped_after g u t call d) × (run ≡ x.run ++ event ∷ []) × (q.items.items ≡ piped u (stamp_of g u t call) d u v p.items.items)) ((plain_of y ≡ t) × (run ≡ x.run) × (q.items.items ≡ p.items.items))) (sym s.2)
-    (subst (λ n. Entered r (answer g n (plain_of xr) call) (λ d. (plain_of y ≡ stamped_after g n (plain_of xr) call d) × (run ≡ x.run ++ event ∷ []) × (q.items.items ≡ piped n (stamp_of g n (plain_of xr) call) d n v p.items.items)) ((plain_of y ≡ plain_of xr) × (run ≡ x.run) × (q.items.items ≡ p.items.items))) o h) in
-    let entered = net xr.number (enters g (e ∙ sym s.1) ranks) s.0 in
+    let Answers_as : ℕ → Stamped → Type 0 = (λ j t.
+    Entered r (answer g j t call) (λ d. (plain_of y ≡ stamped_after g j t call d) × (run ≡ x.run ++ event ∷ []) × (q.items.items ≡ piped j (stamp_of g j t call) d j v p.items.items))
+    ((plain_of y ≡ t) × (run ≡ x.run) × (q.items.items ≡ p.items.items))) in
+    let entered = subst (λ j. Answers_as j (routers_of x u)) s.0 (subst (Answers_as xr.number) (sym s.2) (enters g (e ∙ sym s.1) ranks)) in
     let items = items_here x v u to k old new p q pipe in
     let pipes = pipes_set x v u to k old new p q pipe in
     subst (λ b. Gives g r b w event z) (sym (link_turned g u v (called g w u call) ∙ pipe.link.linked g e (called g w u call)))
     (lifted g r (answer g u (routers_of x u) call) w z event u stamp _ _ entered
-    (λ d steps h. (let d_is = (law g (subst (λ (n : Plan). IsNetwork n) (sym e) whole.network) u (routers_of x u) call d steps).0 in
+    (λ d steps h. (let d_is = (law g (subst (λ (n : Plan). IsNetwork n) (sym e) at.whole.network) u (routers_of x u) call d steps).0 in
     subst (λ b. (plain_of y ≡ stamped_after g u (routers_of x u) call b) → (q.items.items ≡ piped u stamp b u v p.items.items) → z ≡ world_after g w event u b stamp) (sym d_is.1)
     (λ t j. put_after g w z u v stamp d_is.0 q.items.items (routers_set x u i y (stamped_after g u (routers_of x u) call (puts v d_is.0)) at.router num t) pipes
     (j ∙ ap (λ (l : List Item). piped u stamp (puts v d_is.0) u v l) (sym items)) refl refl h.1) h.0 h.2))
@@ -158,65 +157,64 @@ put_steps law x u v i to k xr y old new p q run r whole at pipe is enters same g
 -- ---- a take
 
 took : AnswersAreSteps → (x : WorldView) (u v i k : ℕ) (xr y : RouterView) (old new : Inbox) (p q : Pipe) (run : List Event) (r : Result Stepped StepFault) (o : Option Item)
-    → IsWhole x → PipeAt x u v i k old new p q → xr ≡ get_or x.routers i xr → TakesFrom r xr x.run p.items.items (schedule.Take u v) v y run q.items.items o → IsSame xr y
+    → PipeAt x u v i k old new p q → xr ≡ get_or x.routers i xr → TakesFrom r xr x.run p.items.items (schedule.Take u v) v y run q.items.items o → IsSame xr y
     → (g : Setting) → g.net ≡ x.net → ChoosesByRank g
     → Gives g r (taking_of g (plain_world x) u v o) (plain_world x) (schedule.Take u v) (plain_world (record x { routers = set x.routers i y; inboxes = set x.inboxes i new; run = run }))
-took law x u v i k xr y old new p q run r None whole pipe is enters same g e ranks =
+took law x u v i k xr y old new p q run r None pipe is enters same g e ranks =
     let at = pipe.link.here in
-    let s = stands x u i xr whole at is in
+    let s = stands x u i xr at is in
     let w = plain_world x in
     let z = plain_world (record x { routers = set x.routers i y; inboxes = set x.inboxes i new; run = run }) in
     let items = items_here x u v i k old new p q pipe in
     let pipes = pipes_set x u v i k old new p q pipe in
     (enters.0, same_world w z (routers_stay x u i y at.router (same.number ∙ s.0) (enters.1 ∙ sym s.2)) (pipes ∙ unmoved (pipes_of x.inboxes) v u q.items.items (enters.3 ∙ sym items)) refl refl enters.2)
-took law x u v i k xr y old new p q run r (Some f) whole pipe is enters same g e ranks =
+took law x u v i k xr y old new p q run r (Some f) pipe is enters same g e ranks =
     let at = pipe.link.here in
-    let s = stands x u i xr whole at is in
+    let s = stands x u i xr at is in
     let num : y.number ≡ u = same.number ∙ s.0 in
     let w = plain_world x in
     let z = plain_world (record x { routers = set x.routers i y; inboxes = set x.inboxes i new; run = run }) in
     let call = Take v f.stamp f.what in
     let stamp = stamp_of g u (routers_of x u) call in
     let event = schedule.Take u v in
-    let net : (j : ℕ) → Entered r (answer g j (plain_of xr) call) (λ d. (plain_of y ≡ stamped_after g j (plain_of xr) call d) × (run ≡ x.run ++ event ∷ []) × (q.items.items ≡ drop 1 p.items.items)) ((plain_of y ≡ plain_of xr) × (run ≡ x.run) × (q.items.items ≡ p.items.items)) → j ≡ u
-    → Entered r (answer g u (routers_of x u) call) (λ d. (plain_of y ≡ stamped_after g u (routers_of x u) call d) × (run ≡ x.run ++ event ∷ []) × (q.items.items ≡ drop 1 p.items.items)) ((plain_of y ≡ routers_of x u) × (run ≡ x.run) × (q.items.items ≡ p.items.items)) =
-    λ j h o. subst (λ t. Entered r (answer g u t call) (λ d. (plain_of y ≡ stamped_after g u t call d) × (run ≡ x.run ++ event ∷ []) × (q.items.items ≡ drop 1 p.items.items)) ((plain_of y ≡ t) × (run ≡ x.run) × (q.items.items ≡ p.items.items))) (sym s.2)
-    (subst (λ n. Entered r (answer g n (plain_of xr) call) (λ d. (plain_of y ≡ stamped_after g n (plain_of xr) call d) × (run ≡ x.run ++ event ∷ []) × (q.items.items ≡ drop 1 p.items.items)) ((plain_of y ≡ plain_of xr) × (run ≡ x.run) × (q.items.items ≡ p.items.items))) o h) in
-    let entered = net xr.number (enters g (e ∙ sym s.1) ranks) s.0 in
+    let Answers_as : ℕ → Stamped → Type 0 = (λ j t.
+    Entered r (answer g j t call) (λ d. (plain_of y ≡ stamped_after g j t call d) × (run ≡ x.run ++ event ∷ []) × (q.items.items ≡ drop 1 p.items.items)) ((plain_of y ≡ t) × (run ≡ x.run) × (q.items.items ≡ p.items.items))) in
+    let entered = subst (λ j. Answers_as j (routers_of x u)) s.0 (subst (Answers_as xr.number) (sym s.2) (enters g (e ∙ sym s.1) ranks)) in
     let items = items_here x u v i k old new p q pipe in
     let pipes = pipes_set x u v i k old new p q pipe in
     lifted g r (answer g u (routers_of x u) call) w z event u stamp _ _ entered
-    (λ d steps h. (let d_is = (law g (subst (λ (n : Plan). IsNetwork n) (sym e) whole.network) u (routers_of x u) call d steps).0 in
+    (λ d steps h. (let d_is = (law g (subst (λ (n : Plan). IsNetwork n) (sym e) at.whole.network) u (routers_of x u) call d steps).0 in
     subst (λ b. (plain_of y ≡ stamped_after g u (routers_of x u) call b) → z ≡ world_after g w event u b stamp) (sym d_is)
     (λ t. take_after g w z u v stamp f.what q.items.items (routers_set x u i y (stamped_after g u (routers_of x u) call (takes v f.what)) at.router num t) pipes (h.2 ∙ ap (drop 1) (sym items)) refl refl h.1) h.0))
     (λ h. same_world w z (routers_stay x u i y at.router num h.0) (pipes ∙ unmoved (pipes_of x.inboxes) v u q.items.items (h.2 ∙ sym items)) refl refl h.1)
 
 pub take_steps : AnswersAreSteps → (x : WorldView) (u v i k : ℕ) (xr y : RouterView) (old new : Inbox) (p q : Pipe) (run : List Event) (r : Result Stepped StepFault)
-    → IsWhole x → PipeAt x u v i k old new p q → xr ≡ get_or x.routers i xr → EntersTake r xr x.run p.items.items (schedule.Take u v) v y run q.items.items → IsSame xr y
+    → PipeAt x u v i k old new p q → xr ≡ get_or x.routers i xr → EntersTake r xr x.run p.items.items (schedule.Take u v) v y run q.items.items → IsSame xr y
     → Answers r x (schedule.Take u v) (record x { routers = set x.routers i y; inboxes = set x.inboxes i new; run = run })
-take_steps law x u v i k xr y old new p q run r whole pipe is enters same g e ranks =
+take_steps law x u v i k xr y old new p q run r pipe is enters same g e ranks =
     let w = plain_world x in
     let z = plain_world (record x { routers = set x.routers i y; inboxes = set x.inboxes i new; run = run }) in
     let items = items_here x u v i k old new p q pipe in
     subst (λ b. Gives g r b w (schedule.Take u v) z)
     (ap (λ (l : List Item). taking_of g w u v (slice_get l 0)) (sym items) ∙ sym (pipe.link.linked g e (taking_of g w u v (slice_get (pipes_of x.inboxes v u) 0))))
-    (took law x u v i k xr y old new p q run r (slice_get p.items.items 0) whole pipe is enters same g e ranks)
+    (took law x u v i k xr y old new p q run r (slice_get p.items.items 0) pipe is enters same g e ranks)
 
 -- ---- all is whole after it
 
 -- each pipe beside it still knows the way back
-backs_set : (x : WorldView) (b a to k : ℕ) (old new : Inbox) (p q : Pipe) → PipeAt x b a to k old new p q → IsWhole x → AllByRecursion (KnowsBack x.net old.router) (set old.pipes.items k q)
-backs_set x b a to k old new p q pipe whole =
+backs_set : (x : WorldView) (b a to k : ℕ) (old new : Inbox) (p q : Pipe) → PipeAt x b a to k old new p q → AllByRecursion (KnowsBack x.net old.router) (set old.pipes.items k q)
+backs_set x b a to k old new p q pipe =
     let net = x.net in
     let at = pipe_at x b a to k old new p q pipe in
     let was = subst (λ (i : Inbox). AllByRecursion (KnowsBack net i.router) i.pipes.items) (sym pipe.was)
-    (all_here (λ i. i.router) (λ i. AllByRecursion (KnowsBack net i.router) i.pipes.items) x.inboxes b to old pipe.link.here.inbox whole.backs) in
+    (all_here (λ i. i.router) (λ i. AllByRecursion (KnowsBack net i.router) i.pipes.items) x.inboxes b to old pipe.link.here.inbox pipe.link.here.whole.backs) in
     let held = subst (KnowsBack net old.router) (sym pipe.held) (all_here (λ p. p.peer) (KnowsBack net old.router) old.pipes.items a k p at was) in
     all_set (λ p. p.peer) (KnowsBack net old.router) old.pipes.items a k q at was (pipe.back net old.router held)
 
-pub whole_pipe : (x : WorldView) (b a u i to k : ℕ) (y : RouterView) (old new : Inbox) (p q : Pipe) (run : List Event) → IsWhole x → StandsAt x u i → PipeAt x b a to k old new p q → y.number ≡ u → y.net ≡ x.net
+pub whole_pipe : (x : WorldView) (b a u i to k : ℕ) (y : RouterView) (old new : Inbox) (p q : Pipe) (run : List Event) → StandsAt x u i → PipeAt x b a to k old new p q → y.number ≡ u → y.net ≡ x.net
     → IsWhole (record x { routers = set x.routers i y; inboxes = set x.inboxes to new; run = run })
-whole_pipe x b a u i to k y old new p q run whole at pipe e n =
+whole_pipe x b a u i to k y old new p q run at pipe e n =
+    let whole = at.whole in
     let old_is = old_router x b a to k old new p q pipe in
     let was0 = all_here (λ i. i.router) (λ i. map (λ p. p.peer) i.pipes.items ≡ peers x.net i.router) x.inboxes b to old pipe.link.here.inbox whole.pipes in
     let was = subst (λ (j : Inbox). map (λ p. p.peer) j.pipes.items ≡ peers x.net j.router) (sym pipe.was) was0 in
@@ -228,29 +226,29 @@ whole_pipe x b a u i to k y old new p q run whole at pipe e n =
       pipes = all_set (λ i. i.router) (λ i. map (λ p. p.peer) i.pipes.items ≡ peers x.net i.router) x.inboxes b to new pipe.link.here.inbox whole.pipes
           (ap (map (λ (p : Pipe). p.peer)) pipe.pipes ∙ numbers_set (λ p. p.peer) old.pipes.items a k q (pipe_at x b a to k old new p q pipe) (pipe_peer x b a to k old new p q pipe) ∙ was ∙ ap (peers x.net) (sym pipe.router));
       backs = all_set (λ i. i.router) (λ i. AllByRecursion (KnowsBack x.net i.router) i.pipes.items) x.inboxes b to new pipe.link.here.inbox whole.backs
-          (subst (λ (u : ℕ). AllByRecursion (KnowsBack x.net u) new.pipes.items) (sym pipe.router) (subst (AllByRecursion (KnowsBack x.net old.router)) (sym pipe.pipes) (backs_set x b a to k old new p q pipe whole)));
+          (subst (λ (u : ℕ). AllByRecursion (KnowsBack x.net u) new.pipes.items) (sym pipe.router) (subst (AllByRecursion (KnowsBack x.net old.router)) (sym pipe.pipes) (backs_set x b a to k old new p q pipe)));
       members = whole.members;
     }
 
 -- ---- an offer
 
 offered : (x : WorldView) (u i : ℕ) (xr y : RouterView) (kept : CollectorView) (board at : ℕ) (run : List Event) (r : Result Stepped StepFault) (o : Option RouterOffer) (b : Bool)
-    → IsWhole x → StandsAt x u i → xr ≡ get_or x.routers i xr → nat_lt GREATEST_STAMP at ≡ b
+    → StandsAt x u i → xr ≡ get_or x.routers i xr → nat_lt GREATEST_STAMP at ≡ b
     → OffersTo r xr x.run x.collector x.board (schedule.Offer u) y run kept board (of_offer u at o) → IsSame xr y → (g : Setting) → g.net ≡ x.net
     → Gives g r (of_offer u at o) (plain_world x) (schedule.Offer u) (plain_world (record x { routers = set x.routers i y; collector = kept; board = board; run = run }))
-offered x u i xr y kept board at run r None b whole stand is late enters same g e =
-    let s = stands x u i xr whole stand is in
+offered x u i xr y kept board at run r None b stand is late enters same g e =
+    let s = stands x u i xr stand is in
     let w = plain_world x in
     let z = plain_world (record x { routers = set x.routers i y; collector = kept; board = board; run = run }) in
     (enters.0, same_world w z (routers_stay x u i y stand.router (same.number ∙ s.0) (enters.1 ∙ sym s.2)) refl enters.3 enters.4 enters.2)
-offered x u i xr y kept board at run r (Some o) true whole stand is late enters same g e =
-    let s = stands x u i xr whole stand is in
+offered x u i xr y kept board at run r (Some o) true stand is late enters same g e =
+    let s = stands x u i xr stand is in
     let w = plain_world x in
     let z = plain_world (record x { routers = set x.routers i y; collector = kept; board = board; run = run }) in
     let h = subst (λ t. OffersTo r xr x.run x.collector x.board (schedule.Offer u) y run kept board (cond t (Stops (Refused error.StampEnd)) (Does u (offers (record { router = u; offer = o })) at))) late enters in
     subst (λ t. Gives g r (cond t (Stops (Refused error.StampEnd)) (Does u (offers (record { router = u; offer = o })) at)) w (schedule.Offer u) z) (sym late)
     (h.0, same_world w z (routers_stay x u i y stand.router (same.number ∙ s.0) (h.1 ∙ sym s.2)) refl h.3 h.4 h.2)
-offered x u i xr y kept board at run r (Some o) false whole stand is late enters same g e =
+offered x u i xr y kept board at run r (Some o) false stand is late enters same g e =
     let w = plain_world x in
     let z = plain_world (record x { routers = set x.routers i y; collector = kept; board = board; run = run }) in
     let h = subst (λ t. OffersTo r xr x.run x.collector x.board (schedule.Offer u) y run kept board (cond t (Stops (Refused error.StampEnd)) (Does u (offers (record { router = u; offer = o })) at))) late enters in
@@ -260,7 +258,7 @@ offered x u i xr y kept board at run r (Some o) false whole stand is late enters
     made_by : (r : Result Stepped StepFault) → OffersTo r xr x.run x.collector x.board (schedule.Offer u) y run kept board (Does u (offers (record { router = u; offer = o })) at)
         → Gives g r (Does u (offers (record { router = u; offer = o })) at) (plain_world x) (schedule.Offer u) (plain_world (record x { routers = set x.routers i y; collector = kept; board = board; run = run }))
     made_by (Ok t) h =
-        let s = stands x u i xr whole stand is in
+        let s = stands x u i xr stand is in
         let w = plain_world x in
         let z = plain_world (record x { routers = set x.routers i y; collector = kept; board = board; run = run }) in (
           h.0,
@@ -268,32 +266,32 @@ offered x u i xr y kept board at run r (Some o) false whole stand is late enters
               (routers_set x u i y (offer_made (routers_of x u) at) stand.router (same.number ∙ s.0) (h.1.0 ∙ ap (λ (k : Stamped). offer_made k at) (sym s.2))) refl h.1.2 h.1.3 h.1.1,
         )
     made_by (Err why) h =
-        let s = stands x u i xr whole stand is in
+        let s = stands x u i xr stand is in
         let w = plain_world x in
         let z = plain_world (record x { routers = set x.routers i y; collector = kept; board = board; run = run }) in
         (h.0, same_world w z (routers_stay x u i y stand.router (same.number ∙ s.0) (h.1.0 ∙ sym s.2)) refl h.1.2 h.1.3 h.1.1)
 
 pub offer_steps : (x : WorldView) (u i : ℕ) (xr y : RouterView) (kept : CollectorView) (board : ℕ) (run : List Event) (r : Result Stepped StepFault)
-    → IsWhole x → StandsAt x u i → xr ≡ get_or x.routers i xr → EntersOffer r xr x.run x.collector x.board (schedule.Offer u) y run kept board → IsSame xr y
+    → StandsAt x u i → xr ≡ get_or x.routers i xr → EntersOffer r xr x.run x.collector x.board (schedule.Offer u) y run kept board → IsSame xr y
     → Answers r x (schedule.Offer u) (record x { routers = set x.routers i y; collector = kept; board = board; run = run })
-offer_steps x u i xr y kept board run r whole stand is enters same g e ranks =
-    let s = stands x u i xr whole stand is in
+offer_steps x u i xr y kept board run r stand is enters same g e ranks =
+    let s = stands x u i xr stand is in
     let w = plain_world x in
     let z = plain_world (record x { routers = set x.routers i y; collector = kept; board = board; run = run }) in
     let h = subst (λ (t : Stamped). OffersTo r xr x.run x.collector x.board (schedule.Offer u) y run kept board (of_offer u (max t.stamp x.board + 1) (next_offer t.router))) (sym s.2)
     (subst (λ (n : ℕ). OffersTo r xr x.run x.collector x.board (schedule.Offer u) y run kept board (of_offer n (max xr.stamp x.board + 1) (next_offer (plain_of xr).router))) s.0 enters) in
     let at = max (routers_of x u).stamp x.board + 1 in
     subst (λ b. Gives g r b w (schedule.Offer u) z) (sym (by_router g u (of_offer u at (next_offer (routers_of x u).router)) (stand.known g e)))
-    (offered x u i xr y kept board at run r (next_offer (routers_of x u).router) (nat_lt GREATEST_STAMP at) whole stand is refl h same g e)
+    (offered x u i xr y kept board at run r (next_offer (routers_of x u).router) (nat_lt GREATEST_STAMP at) stand is refl h same g e)
 
-pub whole_offer : (x : WorldView) (u i : ℕ) (y : RouterView) (kept : CollectorView) (board : ℕ) (run : List Event) → IsWhole x → StandsAt x u i → y.number ≡ u → y.net ≡ x.net → kept.members ≡ x.collector.members
+pub whole_offer : (x : WorldView) (u i : ℕ) (y : RouterView) (kept : CollectorView) (board : ℕ) (run : List Event) → StandsAt x u i → y.number ≡ u → y.net ≡ x.net → kept.members ≡ x.collector.members
     → IsWhole (record x { routers = set x.routers i y; collector = kept; board = board; run = run })
-whole_offer x u i y kept board run whole at e n same = record {
-  network = whole.network;
-  routers = numbers_set (λ r. r.number) x.routers u i y at.router e ∙ whole.routers;
-  nets = all_set (λ r. r.number) (λ r. r.net ≡ x.net) x.routers u i y at.router whole.nets n;
-  inboxes = whole.inboxes;
-  pipes = whole.pipes;
-  backs = whole.backs;
-  members = subst (AreMembers x.net) (sym same) whole.members;
+whole_offer x u i y kept board run at e n same = record {
+  network = at.whole.network;
+  routers = numbers_set (λ r. r.number) x.routers u i y at.router e ∙ at.whole.routers;
+  nets = all_set (λ r. r.number) (λ r. r.net ≡ x.net) x.routers u i y at.router at.whole.nets n;
+  inboxes = at.whole.inboxes;
+  pipes = at.whole.pipes;
+  backs = at.whole.backs;
+  members = subst (AreMembers x.net) (sym same) at.whole.members;
 }

@@ -3,14 +3,13 @@ use Rattle.std.proofs.Common.{◌≡◌, ℕ, zero, suc, ◌+◌, ◌<◌, ◌�
 use Rattle.std.specs.Prelude.{Result, Ok, Err}
 use Rattle.std.specs.List.{flat_map}
 use Rattle.std.proofs.Math.Seq.{take-suc}
-use Rattle.std.proofs.lemmas.List.{length-append, length-map, get_or-map, flat_map_more, take-append-drop, take_all}
+use Rattle.std.proofs.lemmas.List.{length-append, flat_map_more, take-append-drop, take_all}
 use Rattle.std.proofs.lemmas.Grind.{flat_map-append}
 use Rattle.ranked_policy.specs.declared.network.NetRouter.{NetRouter}
 use Rattle.ranked_policy.specs.Plans.{numbers}
 use Rattle.router_model.specs.declared.refusal.Stepped.{Stepped}
 use Rattle.router_model.specs.declared.refusal.Stepped.TheVariants as stepped
 use Rattle.router_model.specs.Settings.{Setting}
-use Rattle.world_core.specs.declared.inbox.Pipe.{Pipe}
 use Rattle.world_core.specs.declared.schedule.Event.{Event}
 use Rattle.world_core.specs.declared.schedule.Event.TheVariants as schedule
 use Rattle.world_core.specs.declared.schedule.StepFault.{StepFault}
@@ -120,11 +119,3 @@ repeated_among n k all events is =
 pub ticks_are : (routers : List NetRouter) → flat_map (λ r. schedule.Tick r.asn ∷ []) routers ≡ map (λ u. schedule.Tick u) (numbers routers)
 ticks_are [] = refl
 ticks_are (r ∷ routers) = ap (λ k. schedule.Tick r.asn ∷ k) (ticks_are routers)
-
--- ---- the pipes that lead to a router tell its peers
-
-pub as_many : (ps : List Pipe) (ns : List ℕ) → map (λ p. p.peer) ps ≡ ns → length ps ≡ length ns
-as_many ps ns is = sym (length-map ps (λ p. p.peer)) ∙ ap length is
-
-pub peer_at : (ps : List Pipe) (ns : List ℕ) (i : ℕ) (d : Pipe) → map (λ p. p.peer) ps ≡ ns → i < length ps → (get_or ps i d).peer ≡ get_or ns i (get_or ps i d).peer
-peer_at ps ns i d all l = (let e = (get_or ps i d).peer in sym (get_or-map (λ p. p.peer) ps i d e l) ∙ ap (λ k. get_or k i e) all)

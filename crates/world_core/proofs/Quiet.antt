@@ -18,7 +18,7 @@ use Rattle.world_core.specs.declared.inbox.Inbox.{Inbox}
 use Rattle.world_core.specs.declared.schedule.Event.{Event}
 use Rattle.world_core.specs.declared.schedule.Event.TheVariants as schedule
 use Rattle.world_core.specs.World.{World, WorldAnswer, Nothing, Gives, of_answer, of_offer, called, taking_of, world_answer}
-use Rattle.world_core.specs.Views.{WorldView, plain_world, routers_of, pipes_of, items_from, IsAt, IsWhole, Answers}
+use Rattle.world_core.specs.Views.{WorldView, plain_world, routers_of, pipes_of, items_from, IsAt}
 use Rattle.world_core.specs.Steps.{LinkAt, StandsAt, LinkIsIdle, IsIdle}
 use Rattle.world_core.proofs.Places.{here}
 use Rattle.world_core.proofs.Stepping.{stands, by_router}
@@ -63,11 +63,11 @@ items_at x u v i k box p at is_box is_pipe =
     ap (λ (ps : List Pipe). items_from ps v) (here (λ b. b.router) (λ b. b.pipes.items) [] x.inboxes u i box at.here.inbox ∙ ap (λ (b : Inbox). b.pipes.items) (sym is_box))
     ∙ here (λ p. p.peer) (λ p. p.items.items) [] box.pipes.items v k p from_here ∙ ap (λ (q : Pipe). q.items.items) (sym is_pipe)
 
-pub quiet : (x : WorldView) (u v i k : ℕ) (xr : RouterView) (box : Inbox) (p : Pipe) → IsWhole x → LinkAt x u v i k → xr ≡ get_or x.routers i xr → box ≡ get_or x.inboxes i box → p ≡ get_or box.pipes.items k p
+pub quiet : (x : WorldView) (u v i k : ℕ) (xr : RouterView) (box : Inbox) (p : Pipe) → LinkAt x u v i k → xr ≡ get_or x.routers i xr → box ≡ get_or x.inboxes i box → p ≡ get_or box.pipes.items k p
     → p.items.items ≡ [] → ((cut : ℕ) → (linked xr.net xr.number v && (not (is_some (next_item cut (sides_of xr v).outbox)) && not (is_waiting (sides_of xr v).held))) ≡ true)
     → LinkIsIdle x u v
-quiet x u v i k xr box p whole at is_router is_box is_pipe none rest =
-    let s = stands x u i xr whole at.here is_router in
+quiet x u v i k xr box p at is_router is_box is_pipe none rest =
+    let s = stands x u i xr at.here is_router in
     let w = plain_world x in
     let items : pipes_of x.inboxes v u ≡ [] = items_at x u v i k box p at is_box is_pipe ∙ none in
     let joined : (g : Setting) → g.net ≡ x.net → linked xr.net xr.number v ≡ true → linked g.net u v ≡ true =
@@ -86,23 +86,6 @@ quiet x u v i k xr box p whole at is_router is_box is_pipe none rest =
           rests g w (schedule.Handle u v) (at.linked g e (called g w u (Handle v)) ∙ idle_is g u (stamp_of g u (routers_of x u) (Handle v)) (answer g u (routers_of x u) (Handle v)) a);
     }
 
--- ---- one event of the three
-
-none_put : (a b : Bool) → (a && not b) ≡ true → (a ≡ true) × (b ≡ false)
-none_put true false h = (refl, refl)
-none_put true true h = absurd cc
-none_put false b h = absurd cc
-
-pub puts_nothing : (x : WorldView) (u v i k : ℕ) (xr : RouterView) → IsWhole x → LinkAt x u v i k → xr ≡ get_or x.routers i xr
-    → ((cut : ℕ) → (linked xr.net xr.number v && not (is_some (next_item cut (sides_of xr v).outbox))) ≡ true) → Answers (Ok stepped.Nothing) x (schedule.Put u v) x
-puts_nothing x u v i k xr whole at is_router rest = λ g e ranks.
-    let s = stands x u i xr whole at.here is_router in
-    let w = plain_world x in
-    let t = none_put (linked xr.net xr.number v) (is_some (next_item g.net.settings.cut (sides_of xr v).outbox)) (rest g.net.settings.cut) in
-    let l : linked g.net u v ≡ true = ap (λ (n : ℕ). linked g.net n v) (sym s.0) ∙ ap (λ (n : Plan). linked n xr.number v) (e ∙ sym s.1) ∙ t.0 in
-    let a : answer g u (routers_of x u) (Put v) ≡ Idle = ap (λ (r : Stamped). answer g u r (Put v)) s.2 ∙ put_idle g u v (plain_of xr) l (none_is (next_item g.net.settings.cut (sides_of xr v).outbox) t.1) in
-    rests g w (schedule.Put u v) (at.linked g e (called g w u (Put v)) ∙ idle_is g u (stamp_of g u (routers_of x u) (Put v)) (answer g u (routers_of x u) (Put v)) a)
-
 -- ---- a router alone
 
 -- a router that gives nothing where it stays as it is has nothing to do
@@ -117,10 +100,10 @@ alone_idle : (g : Setting) (n u : ℕ) (t w : Stamped) (call : Call) → n ≡ u
 alone_idle g n u t w call en ew h =
     rw (sym en, ew) (idle_is g n (stamp_of g n t call) (answer g n t call) (gives_idle g n (answer g n t call) t call h))
 
-pub idle : (x : WorldView) (u i : ℕ) (xr : RouterView) → IsWhole x → StandsAt x u i → xr ≡ get_or x.routers i xr → core.Answers (Ok stepped.Nothing) xr Decide xr
+pub idle : (x : WorldView) (u i : ℕ) (xr : RouterView) → StandsAt x u i → xr ≡ get_or x.routers i xr → core.Answers (Ok stepped.Nothing) xr Decide xr
     → core.Answers (Ok stepped.Nothing) xr Advertise xr → next_offer (plain_of xr).router ≡ None → IsIdle x u
-idle x u i xr whole at is_router decides tells offers =
-    let s = stands x u i xr whole at is_router in
+idle x u i xr at is_router decides tells offers =
+    let s = stands x u i xr at is_router in
     let w = plain_world x in
     record {
       decide = λ g e ranks. rests g w (schedule.Decide u) (by_router g u (called g w u Decide) (at.known g e) ∙ alone_idle g xr.number u (plain_of xr) (routers_of x u) Decide s.0 s.2 (decides g (e ∙ sym s.1) ranks));

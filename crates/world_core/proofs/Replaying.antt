@@ -158,11 +158,6 @@ module _ (links : LinkedRoutersArePeers) (g : Setting) (net : IsNetwork g.net) (
       let other = known_router g v (links g.net net u v near).other in
       rw (known, other, near) refl
 
-  -- the item that a take gets is the next of its pipe
-  first_of_pipe : (v : ℕ) (i : What) (items : List Item) (rest : List What) → i ∷ rest ≡ map (λ k. k.what) items → (p : Item) × (more : List Item) × (items ≡ p ∷ more) × (p.what ≡ i)
-  first_of_pipe v i [] rest h = absurd cc
-  first_of_pipe v i (p ∷ more) rest h = (p, more, refl, let same : i ≡ p.what = cc in sym same)
-
   abbrev Next : RouterEvent → Type 0
   Next e = TakesNext w u e
 

@@ -17,12 +17,14 @@ use Rattle.router_model.specs.Settings.{Setting}
 use Rattle.router_model.specs.Step.{RouterEvent, next_offer}
 use Rattle.router_model.specs.Calls.{Stamped, Call, Put, Answer, Steps, Idle, Refuses, answer, stamped_after, Gives, judged, put_event, bars, event_of, overflows_at, offer_made}
 use Rattle.run_model.specs.declared.stamps.TheConstants.{GREATEST_STAMP}
+use Rattle.router_core.specs.Calling.{NeedsRoom}
+use Rattle.router_core.specs.Views as core
 use Rattle.router_core.specs.Views.{RouterView, plain_of, Shows}
 use Rattle.world_core.specs.declared.schedule.Event.{Event}
 use Rattle.world_core.specs.World.{of_offer, piped, joined}
 use Rattle.world_core.specs.declared.schedule.StepFault.{StepFault}
 use Rattle.world_core.specs.declared.schedule.StepFault.TheVariants.{Memory}
-use Rattle.world_core.specs.Views.{refusal, DoneOr, Entered, OffersTo, EntersOffer}
+use Rattle.world_core.specs.Views.{refusal, answered, logged, DoneOr, Entered, Enters, OffersTo, EntersOffer}
 
 -- ---- what was done, what was nothing, and what was refused
 
@@ -45,12 +47,27 @@ refused g u (Steps e) x y call error done R h r =
 refused g u Idle x y call error done R h r = (let k = h.0 in absurd cc)
 refused g u (Refuses why) x y call error done R h r = (let k : error ≡ why = (let q = h.0 in cc) in ap refusal k, (h.1, r))
 
+-- an event joins the run where the call did a step
+entered : (g : Setting) (u : ℕ) (a : Answer) (x y : Stamped) (call : Call) (called : Result Stepped RouterError) (event : Event) (run : List Event) → Gives g u called a x call y
+    → Entered (answered called) a (λ e. (y ≡ stamped_after g u x call e) × (logged called event run ≡ run ++ event ∷ [])) ((y ≡ x) × (logged called event run ≡ run))
+entered g u a x y call (Ok stepped.Did) event run h = did g u a x y call _ _ h refl
+entered g u a x y call (Ok stepped.Nothing) event run h = nothing g u a x y call _ _ h refl
+entered g u a x y call (Err why) event run h = refused g u a x y call why _ _ h refl
+
+pub enters : (x y : RouterView) (run run_after grown : List Event) (event : Event) (call : Call) (called : Result Stepped RouterError) (r : Result Stepped StepFault) → core.Answers called x call y
+    → r ≡ answered called → run_after ≡ logged called event grown → grown ≡ run → Enters r x run event call y run_after
+enters x y run run_after grown event call called r answers is joins same = λ g e ranks.
+    rw (is, joins, same) (entered g x.number (answer g x.number (plain_of x) call) (plain_of x) (plain_of y) call called event run (answers g e ranks))
+
 -- ---- room for an event
 
 -- what a growth promises where it was not refused
 pub with_room : {T E : Type 0} → (room : Result T E) (P : Type 0) → IsOk room → OnOk room P → P
 with_room (Ok x) P is h = h
 with_room (Err why) P is h = absurd cc
+
+pub has_room : {T E : Type 0} → (called : Result Stepped RouterError) (room : Result T E) (P : Type 0) → NeedsRoom called room → OnOk room P → called ≡ Ok stepped.Did → P
+has_room called room P needs fits is = with_room room P (subst (λ (k : Result Stepped RouterError). NeedsRoom k room) is needs) fits
 
 -- ---- a put
 

@@ -135,41 +135,38 @@ own_after g w z event u stamp (offers made) un r p m b n = absurd un
 abbrev pub Stands : WorldView → ℕ → ℕ → RouterView → Type 0
 Stands x u i xr = (xr.number ≡ u) × (xr.net ≡ x.net) × (routers_of x u ≡ plain_of xr)
 
-pub stands : (x : WorldView) (u i : ℕ) (xr : RouterView) → IsWhole x → StandsAt x u i → xr ≡ get_or x.routers i xr → Stands x u i xr
-stands x u i xr whole at is = (
+pub stands : (x : WorldView) (u i : ℕ) (xr : RouterView) → StandsAt x u i → xr ≡ get_or x.routers i xr → Stands x u i xr
+stands x u i xr at is = (
   ap (λ (r : RouterView). r.number) is ∙ number_here (λ r. r.number) x.routers u i xr at.router,
-  ap (λ (r : RouterView). r.net) is ∙ all_here (λ r. r.number) (λ r. r.net ≡ x.net) x.routers u i xr at.router whole.nets,
+  ap (λ (r : RouterView). r.net) is ∙ all_here (λ r. r.number) (λ r. r.net ≡ x.net) x.routers u i xr at.router at.whole.nets,
   here (λ r. r.number) plain_of (new_stamped x.net) x.routers u i xr at.router ∙ ap plain_of (sym is),
 )
 
-pub whole_router : (x : WorldView) (u i : ℕ) (y : RouterView) (run : List Event) → IsWhole x → StandsAt x u i → y.number ≡ u → y.net ≡ x.net → IsWhole (record x { routers = set x.routers i y; run = run })
-whole_router x u i y run whole at e n = record {
-  network = whole.network;
-  routers = numbers_set (λ r. r.number) x.routers u i y at.router e ∙ whole.routers;
-  nets = all_set (λ r. r.number) (λ r. r.net ≡ x.net) x.routers u i y at.router whole.nets n;
-  inboxes = whole.inboxes;
-  pipes = whole.pipes;
-  backs = whole.backs;
-  members = whole.members;
+pub whole_router : (x : WorldView) (u i : ℕ) (y : RouterView) (run : List Event) → StandsAt x u i → y.number ≡ u → y.net ≡ x.net → IsWhole (record x { routers = set x.routers i y; run = run })
+whole_router x u i y run at e n = record {
+  network = at.whole.network;
+  routers = numbers_set (λ r. r.number) x.routers u i y at.router e ∙ at.whole.routers;
+  nets = all_set (λ r. r.number) (λ r. r.net ≡ x.net) x.routers u i y at.router at.whole.nets n;
+  inboxes = at.whole.inboxes;
+  pipes = at.whole.pipes;
+  backs = at.whole.backs;
+  members = at.whole.members;
 }
 
 pub own_asks : AnswersAreSteps → (x : WorldView) (u i : ℕ) (xr y : RouterView) (event : Event) (call : Call) (run : List Event) (r : Result Stepped StepFault)
-    → IsWhole x → StandsAt x u i → xr ≡ get_or x.routers i xr → IsOwn call → Enters r xr x.run event call y run → IsSame xr y
+    → StandsAt x u i → xr ≡ get_or x.routers i xr → IsOwn call → Enters r xr x.run event call y run → IsSame xr y
     → Asks r x u event call (record x { routers = set x.routers i y; run = run })
-own_asks law x u i xr y event call run r whole at is own enters same g e ranks =
-    let s = stands x u i xr whole at is in
+own_asks law x u i xr y event call run r at is own enters same g e ranks =
+    let s = stands x u i xr at is in
     let num : y.number ≡ u = same.number ∙ s.0 in
     let w = plain_world x in
     let z = plain_world (record x { routers = set x.routers i y; run = run }) in
     let stamp = stamp_of g u (routers_of x u) call in
-    let net : (k : ℕ) → Entered r (answer g k (plain_of xr) call) (λ d. (plain_of y ≡ stamped_after g k (plain_of xr) call d) × (run ≡ x.run ++ event ∷ [])) ((plain_of y ≡ plain_of xr) × (run ≡ x.run)) → k ≡ u
-    → Entered r (answer g u (routers_of x u) call) (λ d. (plain_of y ≡ stamped_after g u (routers_of x u) call d) × (run ≡ x.run ++ event ∷ [])) ((plain_of y ≡ routers_of x u) × (run ≡ x.run)) =
-    λ k h q. subst (λ t. Entered r (answer g u t call) (λ d. (plain_of y ≡ stamped_after g u t call d) × (run ≡ x.run ++ event ∷ [])) ((plain_of y ≡ t) × (run ≡ x.run))) (sym s.2)
-    (subst (λ n. Entered r (answer g n (plain_of xr) call) (λ d. (plain_of y ≡ stamped_after g n (plain_of xr) call d) × (run ≡ x.run ++ event ∷ [])) ((plain_of y ≡ plain_of xr) × (run ≡ x.run))) q h) in
-    let entered = net xr.number (enters g (e ∙ sym s.1) ranks) s.0 in
+    let Answers_as : ℕ → Stamped → Type 0 = (λ k t. Entered r (answer g k t call) (λ d. (plain_of y ≡ stamped_after g k t call d) × (run ≡ x.run ++ event ∷ [])) ((plain_of y ≡ t) × (run ≡ x.run))) in
+    let entered = subst (λ k. Answers_as k (routers_of x u)) s.0 (subst (Answers_as xr.number) (sym s.2) (enters g (e ∙ sym s.1) ranks)) in
     subst (λ b. Gives g r (cond b (called g w u call) (Stops NoSuchRouter)) w event z) (sym (at.known g e))
     (lifted g r (answer g u (routers_of x u) call) w z event u stamp _ _ entered
-    (λ d steps h. own_after g w z event u stamp d (unmoved call d own (law g (subst (λ (k : Plan). IsNetwork k) (sym e) whole.network) u (routers_of x u) call d steps).0)
+    (λ d steps h. own_after g w z event u stamp d (unmoved call d own (law g (subst (λ (k : Plan). IsNetwork k) (sym e) at.whole.network) u (routers_of x u) call d steps).0)
     (routers_set x u i y (stamped_after g u (routers_of x u) call d) at.router num h.0) refl refl refl h.1)
     (λ h. same_world w z (routers_stay x u i y at.router num h.0) refl refl refl h.1))
 

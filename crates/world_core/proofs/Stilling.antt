@@ -17,7 +17,6 @@ use Rattle.snap_marker.specs.Recordings.{RouterOffer, MadeOffer}
 use Rattle.router_model.specs.Settings.{Setting, linked, is_origin}
 use Rattle.router_model.specs.State.{Router}
 use Rattle.router_model.specs.Step.{Own, RouterEvent, May, is_greater}
-use Rattle.router_model.specs.Step as step
 use Rattle.router_model.specs.Calls.{Stamped, Call, Obey, Tick, Put, Take, Handle, Decide, Advertise, Answer, Steps, Refuses, judged, unless, first_of, bars, bars_command, event_of, overflows_at, answer, stamp_of, IsEventOf}
 use Rattle.run_model.specs.declared.stamps.TheConstants.{GREATEST_STAMP}
 use Rattle.router_model.specs.Calls as calls

@@ -1,9 +1,9 @@
 -- What the parts of a step start from and leave.
-use Rattle.std.specs.Prelude.{ℕ, ◌≡◌, true, false, get_or, slice_get, Some, Result, Ok, MatchResult}
+use Rattle.std.specs.Prelude.{ℕ, ◌≡◌, true, false, get_or, slice_get, Some, IfSome, Result, Ok, MatchResult}
 use Rattle.ranked_policy.specs.Plans.{Plan, numbers}
 use Rattle.router_model.specs.declared.refusal.Stepped.{Stepped}
 use Rattle.router_model.specs.declared.refusal.Stepped.TheVariants as stepped
-use Rattle.router_model.specs.Settings.{Setting, ChoosesByRank, is_router}
+use Rattle.router_model.specs.Settings.{Setting, ChoosesByRank, is_router, peers}
 use Rattle.router_model.specs.Calls.{Call, Obey, Tick, Put, Take, Handle, Decide, Advertise}
 use Rattle.world_core.specs.declared.inbox.Inbox.{Inbox}
 use Rattle.world_core.specs.declared.schedule.Event.{Event}
@@ -11,8 +11,9 @@ use Rattle.world_core.specs.declared.schedule.Event.TheVariants as schedule
 use Rattle.world_core.specs.declared.schedule.StepFault.{StepFault}
 use Rattle.world_core.specs.declared.schedule.StepFault.TheVariants.{NoSuchRouter}
 use Rattle.world_core.specs.declared.state.State.{State}
+use Rattle.world_core.specs.Events.{router_of, peer_of}
 use Rattle.world_core.specs.World.{WorldAnswer, Stops, Gives, called, where_router, where_linked, world_answer}
-use Rattle.world_core.specs.Views.{WorldView, plain_world, IsAt, ArePlaced, Answers}
+use Rattle.world_core.specs.Views.{WorldView, plain_world, IsAt, IsWhole, Answers}
 
 abbrev pub view_of : State → WorldView
 view_of s = record {
@@ -24,8 +25,14 @@ view_of s = record {
   run = s.run.items;
 }
 
-abbrev pub IsSameNet : WorldView → WorldView → Type 0
-IsSameNet x y = y.net ≡ x.net
+-- a call leaves a whole world of the same network, of which something holds
+pub record Leaves (Holds : Type 0) (x y : WorldView) : Type 0 where
+  pub answers : Holds
+  pub whole : IsWhole y
+  pub same : y.net ≡ x.net
+
+abbrev pub StepsTo : Result Stepped StepFault → WorldView → Event → WorldView → Type 0
+StepsTo r x event y = Leaves (Answers r x event y) x y
 
 -- a call that touches no pipe
 abbrev pub IsOwn : Call → Type 0
@@ -41,8 +48,9 @@ abbrev pub Asks : Result Stepped StepFault → WorldView → ℕ → Event → C
 Asks r x u event call y =
     (g : Setting) → g.net ≡ x.net → ChoosesByRank g → Gives g r (where_router g u (called g (plain_world x) u call)) (plain_world x) event (plain_world y)
 
--- the router, and the inbox of the pipes to it, stand at that place
+-- the router, and the inbox of the pipes to it, stand at that place of a whole world
 pub record StandsAt (x : WorldView) (u i : ℕ) : Type 0 where
+  pub whole : IsWhole x
   pub router : IsAt (λ r. r.number) x.routers u i
   pub inbox : IsAt (λ b. b.router) x.inboxes u i
   pub known : (g : Setting) → g.net ≡ x.net → is_router g u ≡ true
@@ -63,14 +71,8 @@ FindsLink r x u v =
 
 -- the router of an event stands at that place of the network, and the peer, if it names one, at this one among its peers
 abbrev pub IsPlaced : Plan → Event → ℕ → ℕ → Type 0
-IsPlaced net (schedule.Command u c) i k = slice_get (numbers net.routers) i ≡ Some u
-IsPlaced net (schedule.Tick u) i k = slice_get (numbers net.routers) i ≡ Some u
-IsPlaced net (schedule.Put u v) i k = ArePlaced net u v i k
-IsPlaced net (schedule.Take u v) i k = ArePlaced net u v i k
-IsPlaced net (schedule.Handle u v) i k = ArePlaced net u v i k
-IsPlaced net (schedule.Decide u) i k = slice_get (numbers net.routers) i ≡ Some u
-IsPlaced net (schedule.Advertise u) i k = slice_get (numbers net.routers) i ≡ Some u
-IsPlaced net (schedule.Offer u) i k = slice_get (numbers net.routers) i ≡ Some u
+IsPlaced net event i k =
+    (slice_get (numbers net.routers) i ≡ Some (router_of event)) × IfSome (peer_of event) (λ v. slice_get (peers net (router_of event)) k ≡ Some v)
 
 -- the places of an event, or why it is refused
 abbrev pub FindsPlaces : Result (ℕ × ℕ) StepFault → WorldView → Event → Type 0

@@ -161,6 +161,17 @@ refusal error.StampEnd = Err (Refused error.StampEnd)
 refusal error.EpochEnd = Err (Refused error.EpochEnd)
 refusal error.Memory = Err Memory
 
+-- what a router answered to its call, as a world answers it
+abbrev pub answered : Result Stepped RouterError → Result Stepped StepFault
+answered (Ok s) = Ok s
+answered (Err why) = refusal why
+
+-- the run behind it: an event that is done joins it
+abbrev pub logged : Result Stepped RouterError → Event → List Event → List Event
+logged (Ok stepped.Did) event run = run ++ event ∷ []
+logged (Ok stepped.Nothing) event run = run
+logged (Err why) event run = run
+
 -- a step is done, and `done` holds; or it wants memory, and `still` holds
 abbrev pub DoneOr : Result Stepped StepFault → Type 0 → Type 0 → Type 0
 DoneOr r done still = MatchResult r (λ s. (s ≡ stepped.Did) × done) (λ why. (why ≡ Memory) × still)

@@ -90,7 +90,7 @@ pub fn collectors_judge_their_runs()
 /// If each event of a run is what its router's call chooses, and no outbox is full as one comes, the events are played
 /// to the end of that run.
 ///
-/// Premises: the network is one, routers choose by rank, the hold time fits an OPEN; the run has no more events than there
+/// Premises: `IsNetwork`, routers choose by rank, the hold time fits an OPEN; the run has no more events than there
 /// are stamps.
 pub fn chosen_runs_are_played()
     ensures { ChosenRunsArePlayed }
@@ -102,7 +102,7 @@ pub fn chosen_runs_are_played()
 /// If each event of a run is what its router's call answers, the events are played to the end of that run, whatever
 /// waits in the outboxes.
 ///
-/// Premises: the network is one, routers choose by rank, the hold time fits an OPEN; the run has no more events than
+/// Premises: `IsNetwork`, routers choose by rank, the hold time fits an OPEN; the run has no more events than
 /// there are stamps.
 pub fn called_runs_are_played()
     ensures { CalledRunsArePlayed }

@@ -1,4 +1,12 @@
 //! A network of routers whose events one schedule names, in one order: a world, and what it plays.
+//!
+//! Its contract: a [`World`] does each event as `specs/World` says, or nothing, or refuses it and stays as it was
+//! ([`World::step`]); an order is a list of events ([`World::obey`]), which a watcher may look at
+//! ([`World::obey_watched`], [`Watch`]). What a world played is a run of the routers of `router_model`, with the promises
+//! of runs (`specs/Views`: `KeepsPromises`; [`laws`]). [`through_cut`] makes the run through the cut of a snapshot.
+//! Routers that rest and links that are idle are passed over (`specs/IdleTurns`).
+//!
+//! Left out: texts of schedules and reports, by `schedule_text`; routers in threads, by `net_workers`.
 #![tactic(auto)]
 
 mod counts;

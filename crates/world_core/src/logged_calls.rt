@@ -1,16 +1,15 @@
 //! Events of one router, which join the run if they are done.
 
-ghost use Rattle.std.specs.Prelude.{◌≡◌, slice_get, Some};
-ghost use Rattle.router_model.specs.Calls.{Handle};
+ghost use Rattle.std.specs.Prelude.{◌≡◌, ◌<◌, slice_get, Some, Ok, vec_len, vec_capacity};
+ghost use Rattle.router_model.specs.declared.refusal.Stepped.TheVariants.{Did};
 ghost use Rattle.router_model.specs.Settings.{peers};
-ghost use Rattle.router_core.specs.Calling.{call_of};
 ghost use Rattle.router_core.specs.Views.{IsSame};
-ghost use Rattle.world_core.specs.Views.{refusal, Enters, EntersPut, EntersTake, EntersOffer};
+ghost use Rattle.world_core.specs.Views.{refusal, answered, logged, EntersPut, EntersTake, EntersOffer};
 
 use crate::schedule::{Event, StepFault, join};
 use outbox::Item;
 use ranked_policy::Asn;
-use router_core::{Call, Router};
+use router_core::Router;
 use router_model::{RouterError, Stepped};
 use run_model::GREATEST_STAMP;
 use snap_collector::Collector;
@@ -32,41 +31,17 @@ fn refusal(error: RouterError) -> Result<Stepped, StepFault>
     }
 }
 
-/// Makes a call of a router. An event that is done joins the run.
-pub(crate) fn enter(
-    router: &mut Router<'_>,
+/// What a router answered to its call, as a world answers it. An event that is done joins the run, which then has room.
+pub(crate) fn log_answer(
     run: &mut Vec<Event>,
     event: &Event,
-    call: &Call,
+    called: Result<Stepped, RouterError>,
 ) -> Result<Stepped, StepFault>
-    ensures enters { Enters result router.old run.old.items event.now (call_of call.now) router.new run.new.items }
-    ensures same { IsSame router.old router.new }
+    requires { called ≡ Ok Did → vec_len run.old < vec_capacity run.old }
+    ensures answer { result ≡ answered called }
+    ensures run { run.new.items ≡ logged called event.now run.old.items }
 {
-    let room = run.reserve(1);
-    match router.perform(call, room) {
-        Ok(Stepped::Did) => {
-            join(run, event);
-            Ok(Stepped::Did)
-        }
-        Ok(Stepped::Nothing) => Ok(Stepped::Nothing),
-        Err(error) => refusal(error),
-    }
-}
-
-/// A router handles the message of the peer at a place. An event that is done joins the run.
-pub(crate) fn enter_handle(
-    router: &mut Router<'_>,
-    run: &mut Vec<Event>,
-    event: &Event,
-    place: usize,
-    peer: Asn,
-) -> Result<Stepped, StepFault>
-    requires { slice_get (peers router.old.net router.old.number) place ≡ Some peer }
-    ensures enters { Enters result router.old run.old.items event.now (Handle peer) router.new run.new.items }
-    ensures same { IsSame router.old router.new }
-{
-    let room = run.reserve(1);
-    match router.handle_at(place, peer, room) {
+    match called {
         Ok(Stepped::Did) => {
             join(run, event);
             Ok(Stepped::Did)

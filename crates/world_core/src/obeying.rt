@@ -1,12 +1,11 @@
 //! Orders that are obeyed, event by event, while a watcher looks on.
 
-ghost use Rattle.std.specs.Prelude.{◌≡◌, ◌<◌, ◌∷◌, [], true, length, slice_get, Some, OnOk};
+ghost use Rattle.std.specs.Prelude.{◌≡◌, ◌∷◌, [], slice_get, Some, OnOk};
 ghost use Rattle.ranked_policy.specs.Plans.{numbers};
-ghost use Rattle.router_model.specs.Settings.{peers};
 ghost use Rattle.world_core.specs.declared.schedule.Event.TheVariants.{Put, Take, Handle, Decide, Advertise, Offer};
 ghost use Rattle.world_core.specs.Orders.{with_peer, turn, round, second, repeated, events_of};
 ghost use Rattle.world_core.specs.IdleTurns.{TurnsAreIdle, TurnsAreIdleBeside};
-ghost use Rattle.world_core.specs.Steps.{IsPlaced, FindsPlaces, LinkIsIdle, IsIdle};
+ghost use Rattle.world_core.specs.Steps.{IsPlaced};
 ghost use Rattle.world_core.specs.Views.{ArePlaced, Answers, Obeys, KeepsPromises};
 ghost use Rattle.world_core.specs.Watching.{WatchesEvents, WatchesRounds, WatchesOrder};
 
@@ -133,8 +132,7 @@ impl<'a> World<'a> {
         if is_marked(marks.as_slice(), at) {
             return Ok(());
         }
-        let network = self.network();
-        let _ = network.built();
+        let _ = &self.state;
         let before = self.run().len();
         self.turn(at, number, marks, watcher)?;
         if self.run().len() == before {
@@ -171,10 +169,8 @@ impl<'a> World<'a> {
         ensures resting { OnOk result (TurnsAreIdleBeside self.new number marks.new.items) }
     {
         answers_are_steps();
-        let network = self.network();
-        let _ = network.built();
-        for place in 0..self.count_peers(at, number) {
-            let peer = self.peer_at(at, number, place);
+        for place in 0..self.state.pipes_at(at, number).len() {
+            let peer = self.state.pipes_at(at, number)[place].peer;
             self.exchange(at, number, place, peer, marks, watcher)?;
         }
         self.alone(at, number, watcher)
@@ -198,29 +194,11 @@ impl<'a> World<'a> {
         ensures resting { OnOk result (TurnsAreIdleBeside self.new number marks.new.items) }
     {
         answers_are_steps();
-        let network = self.network();
-        let _ = network.built();
-        if self.link_is_idle_at(at, place, number, peer) {
+        linked_routers_are_peers();
+        if self.state.link_is_idle_at(at, place, number, peer) {
             return Ok(());
         }
         self.put(at, number, place, peer, marks, watcher)?;
-        self.take_and_handle(at, number, place, peer, watcher)
-    }
-
-    // Lets the router at a place take the next item of the peer at a place, and then handle its message.
-    fn take_and_handle<W: Watch>(
-        &mut self,
-        at: usize,
-        number: Asn,
-        place: usize,
-        peer: Asn,
-        watcher: &mut W,
-    ) -> Result<(), StepFault>
-        requires { ArePlaced self.old.net number peer at place }
-        ensures watches { WatchesEvents W.says W.may_want result self.old (Take number peer ∷ Handle number peer ∷ [])
-            (W.said watcher.old) self.new (W.said watcher.new) }
-        ensures same { self.new.net ≡ self.old.net }
-    {
         self.watched(at, place, &Event::Take(number, peer), watcher)?;
         self.watched(at, place, &Event::Handle(number, peer), watcher)
     }
@@ -244,12 +222,12 @@ impl<'a> World<'a> {
         ensures resting { OnOk result (TurnsAreIdleBeside self.new number marks.new.items) }
     {
         answers_are_steps();
-        let network = self.network();
-        let _ = network.built();
+        linked_routers_are_peers();
+        let (router, _) = self.state.back_at(at, place, number, peer);
         let before = self.run().len();
         self.watched(at, place, &Event::Put(number, peer), watcher)?;
         if self.run().len() != before {
-            mark(marks, self.place_of_peer(at, number, place, peer), false);
+            mark(marks, router, false);
         }
         Ok(())
     }
@@ -261,7 +239,7 @@ impl<'a> World<'a> {
             (Decide number ∷ Advertise number ∷ Offer number ∷ []) (W.said watcher.old) self.new (W.said watcher.new) }
         ensures same { self.new.net ≡ self.old.net }
     {
-        if self.is_idle_at(at, number) {
+        if self.state.is_idle_at(at, number) {
             return Ok(());
         }
         self.watched(at, 0, &Event::Decide(number), watcher)?;
@@ -275,7 +253,7 @@ impl<'a> World<'a> {
             self.new (W.said watcher.new) }
         ensures same { self.new.net ≡ self.old.net }
     {
-        let (at, place) = self.places(event)?;
+        let (at, place) = self.state.places(event)?;
         self.watched(at, place, event, watcher)
     }
 
@@ -298,58 +276,6 @@ impl<'a> World<'a> {
             Stepped::Nothing => {}
         }
         Ok(())
-    }
-
-    // How many peers a router has. The router stands at that place of the network.
-    fn count_peers(&self, at: usize, number: Asn) -> usize
-        requires { slice_get (numbers self.now.net.routers) at ≡ Some number }
-        ensures { result ≡ length (peers self.now.net number) }
-    {
-        self.state.pipes_at(at, number).len()
-    }
-
-    // The peer at a place among those of a router, rising. The router stands at the place `at` of the network.
-    fn peer_at(&self, at: usize, number: Asn, place: usize) -> Asn
-        requires router { slice_get (numbers self.now.net.routers) at ≡ Some number }
-        requires within { place < length (peers self.now.net number) }
-        ensures { slice_get (peers self.now.net number) place ≡ Some result }
-    {
-        self.state.pipes_at(at, number)[place].peer
-    }
-
-    // The place in the network of the peer at a place among those of a router. The router stands at the place `at`.
-    fn place_of_peer(&self, at: usize, number: Asn, place: usize, peer: Asn) -> usize
-        requires { ArePlaced self.now.net number peer at place }
-        ensures { slice_get (numbers self.now.net.routers) result ≡ Some peer }
-    {
-        linked_routers_are_peers();
-        self.state.back_at(at, place, number, peer).0
-    }
-
-    // Whether nothing has to be put, taken or handled between a router and a peer. The router stands at the place `at`
-    // of the network, and the peer at the place `place` among its peers.
-    fn link_is_idle_at(&self, at: usize, place: usize, number: Asn, peer: Asn) -> bool
-        requires { ArePlaced self.now.net number peer at place }
-        ensures { result ≡ true → LinkIsIdle self.now number peer }
-    {
-        linked_routers_are_peers();
-        self.state.link_is_idle_at(at, place, number, peer)
-    }
-
-    // Whether it is seen without a look at a path that a router has nothing to decide, nobody to tell and nothing to
-    // offer. The router stands at that place of the network.
-    fn is_idle_at(&self, at: usize, number: Asn) -> bool
-        requires { slice_get (numbers self.now.net.routers) at ≡ Some number }
-        ensures { result ≡ true → IsIdle self.now number }
-    {
-        self.state.is_idle_at(at, number)
-    }
-
-    // The place of the router that does an event, and that of the peer that the event names, if it names one.
-    fn places(&self, event: &Event) -> Result<(usize, usize), StepFault>
-        ensures { FindsPlaces result self.now event.now }
-    {
-        self.state.places(event)
     }
 
     // Does an event of the router at a place, with the peer at a place if it names one.

@@ -1,15 +1,14 @@
 //! The state of a world, and how each event changes it.
 
-ghost use Rattle.std.specs.Prelude.{◌≡◌, ◌<◌, length, map, MatchResult, MatchOption, Some, Ok, IfOk, true, false};
-ghost use Rattle.router_model.specs.declared.refusal.Stepped.TheVariants.{Nothing};
+ghost use Rattle.std.specs.Prelude.{◌≡◌, map, MatchOption, Some, true};
 ghost use Rattle.world_core.specs.declared.schedule.Event.TheVariants.{Put, Take, Handle, Offer};
 ghost use Rattle.router_model.specs.Settings.{peers};
 ghost use Rattle.router_core.specs.Calling.{call_of};
-ghost use Rattle.world_core.specs.Views.{IsWhole, Answers, IsNoRouter, IsRouterOf, comes_next, NothingComes};
-ghost use Rattle.world_core.specs.Steps.{view_of, IsSameNet, Asks, StandsAt, LinkAt, IsPlaceOf, FindsLink, IsPlaced, FindsPlaces, LinkIsIdle, IsIdle};
+ghost use Rattle.world_core.specs.Views.{IsWhole, IsNoRouter, IsRouterOf, comes_next, NothingComes};
+ghost use Rattle.world_core.specs.Steps.{view_of, Leaves, StepsTo, Asks, StandsAt, LinkAt, IsPlaceOf, FindsLink, IsPlaced, FindsPlaces, LinkIsIdle, IsIdle};
 
 use crate::inbox::{Inbox, Pipe, place_of};
-use crate::logged_calls::{enter, enter_handle, enter_offer, enter_put, enter_take};
+use crate::logged_calls::{enter_offer, enter_put, enter_take, log_answer};
 use crate::schedule::{Event, StepFault};
 use outbox::Item;
 use ranked_policy::{Asn, Network};
@@ -52,14 +51,14 @@ impl<'a> State<'a> {
         number: Asn,
         call: &Call,
     ) -> Result<Stepped, StepFault>
-        requires whole { IsWhole (view_of self.old) }
-        requires stands { StandsAt (view_of self.old) number at }
-        ensures asks { Asks result (view_of self.old) number event.now (call_of call.now) (view_of self.new) }
-        ensures whole { IsWhole (view_of self.new) }
-        ensures same { IsSameNet (view_of self.old) (view_of self.new) }
+        requires { StandsAt (view_of self.old) number at }
+        ensures { Leaves (Asks result (view_of self.old) number event.now (call_of call.now) (view_of self.new))
+            (view_of self.old) (view_of self.new) }
     {
         answers_are_steps();
-        enter(&mut self.routers[at], &mut self.run, event, call)
+        let room = self.run.reserve(1);
+        let called = self.routers[at].perform(call, room);
+        log_answer(&mut self.run, event, called)
     }
 
     // The place of a router, and that of the pipe from a peer among those that lead to it.
@@ -79,8 +78,7 @@ impl<'a> State<'a> {
     /// The place of a peer, and that of the pipe from a router to it. The router and the pipe from the peer stand at the
     /// places given.
     pub fn back_at(&self, at: usize, pipe: usize, number: Asn, peer: Asn) -> (usize, usize)
-        requires whole { IsWhole (view_of self.now) }
-        requires link { LinkAt (view_of self.now) number peer at pipe }
+        requires { LinkAt (view_of self.now) number peer at pipe }
         ensures { LinkAt (view_of self.now) peer number result.0 result.1 }
     {
         linked_routers_are_peers();
@@ -96,15 +94,13 @@ impl<'a> State<'a> {
         number: Asn,
         peer: Asn,
     ) -> Result<Stepped, StepFault>
-        requires whole { IsWhole (view_of self.old) }
-        requires link { LinkAt (view_of self.old) number peer at pipe }
-        ensures answers { Answers result (view_of self.old) (Handle number peer) (view_of self.new) }
-        ensures whole { IsWhole (view_of self.new) }
-        ensures same { IsSameNet (view_of self.old) (view_of self.new) }
+        requires { LinkAt (view_of self.old) number peer at pipe }
+        ensures { StepsTo result (view_of self.old) (Handle number peer) (view_of self.new) }
     {
         answers_are_steps();
-        let event = Event::Handle(number, peer);
-        enter_handle(&mut self.routers[at], &mut self.run, &event, pipe, peer)
+        let room = self.run.reserve(1);
+        let called = self.routers[at].handle_at(pipe, peer, room);
+        log_answer(&mut self.run, &Event::Handle(number, peer), called)
     }
 
     // Lets a router put its next item into the pipe to a peer. The router and the pipe from the peer stand at these
@@ -116,16 +112,10 @@ impl<'a> State<'a> {
         number: Asn,
         peer: Asn,
     ) -> Result<Stepped, StepFault>
-        requires whole { IsWhole (view_of self.old) }
-        requires link { LinkAt (view_of self.old) number peer at pipe }
-        ensures answers { Answers result (view_of self.old) (Put number peer) (view_of self.new) }
-        ensures whole { IsWhole (view_of self.new) }
-        ensures same { IsSameNet (view_of self.old) (view_of self.new) }
+        requires { LinkAt (view_of self.old) number peer at pipe }
+        ensures { StepsTo result (view_of self.old) (Put number peer) (view_of self.new) }
     {
         answers_are_steps();
-        if self.puts_nothing_at(at, pipe, number, peer) {
-            return Ok(Stepped::Nothing);
-        }
         let (to, into) = self.back_at(at, pipe, number, peer);
         let items = &mut self.inboxes[to].pipes[into].items;
         let event = Event::Put(number, peer);
@@ -147,11 +137,8 @@ impl<'a> State<'a> {
         number: Asn,
         peer: Asn,
     ) -> Result<Stepped, StepFault>
-        requires whole { IsWhole (view_of self.old) }
-        requires link { LinkAt (view_of self.old) number peer at pipe }
-        ensures answers { Answers result (view_of self.old) (Take number peer) (view_of self.new) }
-        ensures whole { IsWhole (view_of self.new) }
-        ensures same { IsSameNet (view_of self.old) (view_of self.new) }
+        requires { LinkAt (view_of self.old) number peer at pipe }
+        ensures { StepsTo result (view_of self.old) (Take number peer) (view_of self.new) }
     {
         answers_are_steps();
         let items = &mut self.inboxes[at].pipes[pipe].items;
@@ -168,11 +155,8 @@ impl<'a> State<'a> {
 
     // Lets the router at a place make the offer that waits in front.
     fn offer_at(&mut self, at: usize, number: Asn) -> Result<Stepped, StepFault>
-        requires whole { IsWhole (view_of self.old) }
-        requires stands { StandsAt (view_of self.old) number at }
-        ensures answers { Answers result (view_of self.old) (Offer number) (view_of self.new) }
-        ensures whole { IsWhole (view_of self.new) }
-        ensures same { IsSameNet (view_of self.old) (view_of self.new) }
+        requires { StandsAt (view_of self.old) number at }
+        ensures { StepsTo result (view_of self.old) (Offer number) (view_of self.new) }
     {
         let event = Event::Offer(number);
         enter_offer(
@@ -186,8 +170,7 @@ impl<'a> State<'a> {
 
     /// The pipes that lead to the router at a place, by rising peer.
     pub fn pipes_at(&self, at: usize, number: Asn) -> &[Pipe]
-        requires whole { IsWhole (view_of self.now) }
-        requires stands { StandsAt (view_of self.now) number at }
+        requires { StandsAt (view_of self.now) number at }
         ensures { map (λ p. p.peer) result.now ≡ peers (view_of self.now).net number }
     {
         self.inboxes[at].pipes.as_slice()
@@ -196,8 +179,7 @@ impl<'a> State<'a> {
     /// Whether nothing has to be put, taken or handled between a router and a peer. The router and the pipe from the
     /// peer stand at these places.
     pub fn link_is_idle_at(&self, at: usize, pipe: usize, number: Asn, peer: Asn) -> bool
-        requires whole { IsWhole (view_of self.now) }
-        requires link { LinkAt (view_of self.now) number peer at pipe }
+        requires { LinkAt (view_of self.now) number peer at pipe }
         ensures { result ≡ true → LinkIsIdle (view_of self.now) number peer }
     {
         match self.inboxes[at].pipes[pipe].items.front() {
@@ -206,20 +188,10 @@ impl<'a> State<'a> {
         }
     }
 
-    // Whether a router has nothing to put towards a peer. The router and the pipe from the peer stand at these places.
-    fn puts_nothing_at(&self, at: usize, pipe: usize, number: Asn, peer: Asn) -> bool
-        requires whole { IsWhole (view_of self.now) }
-        requires link { LinkAt (view_of self.now) number peer at pipe }
-        ensures { result ≡ true → Answers (Ok Nothing) (view_of self.now) (Put number peer) (view_of self.now) }
-    {
-        self.routers[at].puts_nothing_at(pipe, peer)
-    }
-
-    /// Whether it is seen without a look at a path that the router at a place has nothing to decide, nobody to tell and
+    /// Whether it shows, without a look at any path, that the router at a place has nothing to decide, nobody to tell and
     /// nothing to offer.
     pub fn is_idle_at(&self, at: usize, number: Asn) -> bool
-        requires whole { IsWhole (view_of self.now) }
-        requires stands { StandsAt (view_of self.now) number at }
+        requires { StandsAt (view_of self.now) number at }
         ensures { result ≡ true → IsIdle (view_of self.now) number }
     {
         self.routers[at].is_idle()
@@ -252,9 +224,7 @@ impl<'a> State<'a> {
     pub fn step_at(&mut self, at: usize, pipe: usize, event: &Event) -> Result<Stepped, StepFault>
         requires whole { IsWhole (view_of self.old) }
         requires placed { IsPlaced (view_of self.old).net event.now at pipe }
-        ensures answers { Answers result (view_of self.old) event.now (view_of self.new) }
-        ensures whole { IsWhole (view_of self.new) }
-        ensures same { IsSameNet (view_of self.old) (view_of self.new) }
+        ensures { StepsTo result (view_of self.old) event.now (view_of self.new) }
     {
         linked_routers_are_peers();
         match *event {
@@ -273,10 +243,8 @@ impl<'a> State<'a> {
 
     /// Does one event.
     pub fn step(&mut self, event: &Event) -> Result<Stepped, StepFault>
-        requires whole { IsWhole (view_of self.old) }
-        ensures answers { Answers result (view_of self.old) event.now (view_of self.new) }
-        ensures whole { IsWhole (view_of self.new) }
-        ensures same { IsSameNet (view_of self.old) (view_of self.new) }
+        requires { IsWhole (view_of self.old) }
+        ensures { StepsTo result (view_of self.old) event.now (view_of self.new) }
     {
         let (at, pipe) = self.places(event)?;
         self.step_at(at, pipe, event)

@@ -1,21 +1,32 @@
-use Rattle.std.proofs.Common.{◌∙◌, rules}
+use Rattle.std.proofs.Common.{◌∙◌, ◌+◌, ◌≤◌, arith, vec_len, vec_capacity, refl, rules}
 use Rattle.router_core.specs.Calling.{call_of}
 use Rattle.world_core.specs.Steps.{view_of}
 use Rattle.world_core.proofs.Places.{is_below}
+use Rattle.world_core.proofs.RouterAnswers.{has_room, enters}
 use Rattle.world_core.proofs.Stepping.{stands, whole_router, is_own, own_asks}
 use Rattle.world_core.proofs.state.State.ask_at.Goals as goal
 
 pub index_mut-requires : goal.index_mut-requires
 index_mut-requires c =
-    let inside = is_below (λ r. r.number) c.args.self.now.routers.items c.args.number c.args.at c.requires.stands.router in
+    let inside = is_below (λ r. r.number) c.args.self.now.routers.items c.args.number c.args.at c.requires.router in
     search rules
 
-pub returns-clause-asks : goal.returns-clause-asks
-returns-clause-asks c =
-    own_asks c.answers_are_steps.ensures (view_of c.args.self.now) c.args.number c.args.at c.index_mut.result.now c.enter.new.router c.args.event.now (call_of c.args.call.now) c.enter.new.run.items c.enter.result
-    c.requires.whole c.requires.stands c.index_mut.ensures.value (is_own c.args.call.now) c.enter.ensures.enters c.enter.ensures.same
+pub log_answer-requires : goal.log_answer-requires
+log_answer-requires c = λ did.
+    let fits : vec_len c.reserve-room.new.self + 1 ≤ vec_capacity c.reserve-room.new.self = has_room c.perform-called.result c.reserve-room.result _ c.perform-called.ensures.full c.reserve-room.ensures.ok did in
+    omega (arith, fits)
 
-pub returns-clause-whole : goal.returns-clause-whole
-returns-clause-whole c =
-    let s = stands (view_of c.args.self.now) c.args.number c.args.at c.index_mut.result.now c.requires.whole c.requires.stands c.index_mut.ensures.value in
-    whole_router (view_of c.args.self.now) c.args.number c.args.at c.enter.new.router c.enter.new.run.items c.requires.whole c.requires.stands (c.enter.ensures.same.number ∙ s.0) (c.enter.ensures.same.net ∙ s.1)
+pub returns : goal.returns
+returns c =
+    let x = view_of c.args.self.now in
+    let xr = c.index_mut.result.now in
+    let y = c.perform-called.new.self in
+    let run = c.log_answer.new.run.items in
+    let call = call_of c.args.call.now in
+    let s = stands x c.args.number c.args.at xr c.requires c.index_mut.ensures.value in
+    record {
+      answers = own_asks c.answers_are_steps.ensures x c.args.number c.args.at xr y c.args.event.now call run c.log_answer.result c.requires c.index_mut.ensures.value (is_own c.args.call.now)
+          (enters xr y x.run run c.reserve-room.new.self.items c.args.event.now call c.perform-called.result c.log_answer.result c.perform-called.ensures.answers c.log_answer.ensures.answer c.log_answer.ensures.run c.reserve-room.ensures.items) c.perform-called.ensures.same;
+      whole = whole_router x c.args.number c.args.at y run c.requires (c.perform-called.ensures.same.number ∙ s.0) (c.perform-called.ensures.same.net ∙ s.1);
+      same = refl;
+    }

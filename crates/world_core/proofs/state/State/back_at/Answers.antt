@@ -8,12 +8,12 @@ use Rattle.world_core.proofs.state.State.back_at.Goals as goal
 
 pub index-requires : goal.index-requires
 index-requires c =
-    let inside = is_below (λ b. b.router) c.args.self.now.inboxes.items c.args.number c.args.at c.requires.link.here.inbox in
+    let inside = is_below (λ b. b.router) c.args.self.now.inboxes.items c.args.number c.args.at c.requires.here.inbox in
     search rules
 
 pub index-pipe-requires : goal.index-pipe-requires
 index-pipe-requires c =
-    let at = subst (λ (i : Inbox). IsAt (λ p. p.peer) i.pipes.items c.args.peer c.args.pipe) (sym c.index.ensures) (c.requires.link.pipe c.index.result.now) in
+    let at = subst (λ (i : Inbox). IsAt (λ p. p.peer) i.pipes.items c.args.peer c.args.pipe) (sym c.index.ensures) (c.requires.pipe c.index.result.now) in
     let inside = is_below (λ p. p.peer) c.index.result.now.pipes.items c.args.peer c.args.pipe at in
     search rules
 
@@ -21,5 +21,5 @@ pub returns : goal.returns
 returns c =
     let x = view_of c.args.self.now in
     let p = c.index-pipe.result.now in
-    link_placed c.linked_routers_are_peers.ensures x c.args.peer c.args.number p.router p.back c.requires.whole
-    (back_placed x c.args.number c.args.peer c.args.at c.args.pipe c.index.result.now p c.requires.whole c.requires.link c.index.ensures c.index-pipe.ensures)
+    link_placed c.linked_routers_are_peers.ensures x c.args.peer c.args.number p.router p.back c.requires.here.whole
+    (back_placed x c.args.number c.args.peer c.args.at c.args.pipe c.index.result.now p c.requires c.index.ensures c.index-pipe.ensures)

@@ -1,9 +1,10 @@
-use Rattle.std.proofs.Common.{◌∙◌, ap, rules, subst, sym, ◌≡◌, map}
+use Rattle.std.proofs.Common.{◌∙◌, ap, rules, subst, map}
 use Rattle.std.specs.List.{position}
-use Rattle.router_model.specs.Settings.{peers}
 use Rattle.world_core.specs.declared.inbox.Inbox.{Inbox}
+use Rattle.world_core.specs.Steps.{view_of}
 use Rattle.world_core.specs.Views.{is_from, IsAt}
-use Rattle.world_core.proofs.Places.{is_below, number_here, all_here, here_same}
+use Rattle.world_core.proofs.Places.{is_below, here_same}
+use Rattle.world_core.proofs.Staying.{peers_here}
 use Rattle.world_core.proofs.Linking.{seek, is_linked, unlinked, passes_link, no_link}
 use Rattle.world_core.proofs.state.State.link.Goals as goal
 
@@ -20,9 +21,7 @@ returns-in-Some c =
     let at = c.in_ok-at.ensures.inbox in
     let found = seek box.pipes.items c.args.peer c.place_of.result (c.place_of.ensures ∙ ap (position (is_from c.args.peer)) c.as_slice.ensures.value) in
     let pipe = rw c.in-Some.is at found in
-    let is_number = ap (λ (b : Inbox). b.router) c.index.ensures ∙ number_here (λ b. b.router) boxes c.args.number c.in_ok-at.at box at in
-    let all0 = all_here (λ b. b.router) (λ i. map (λ p. p.peer) i.pipes.items ≡ peers net i.router) boxes c.args.number c.in_ok-at.at box at c.requires.pipes in
-    let all = subst (λ (b : Inbox). map (λ p. p.peer) b.pipes.items ≡ peers net b.router) (sym c.index.ensures) all0 ∙ ap (peers net) is_number in
+    let all = ap (λ (b : Inbox). map (λ p. p.peer) b.pipes.items) c.index.ensures ∙ peers_here (view_of c.args.self.now) c.args.number c.in_ok-at.at box c.in_ok-at.ensures in
     record {
       here = c.in_ok-at.ensures;
       pipe = λ d. subst (λ (b : Inbox). IsAt (λ p. p.peer) b.pipes.items c.args.peer c.in-Some.pipe) (c.index.ensures ∙ here_same (λ b. b.router) boxes c.args.number c.in_ok-at.at box d at) pipe;
@@ -37,8 +36,6 @@ returns-in-None c =
     let at = c.in_ok-at.ensures.inbox in
     let found = seek box.pipes.items c.args.peer c.place_of.result (c.place_of.ensures ∙ ap (position (is_from c.args.peer)) c.as_slice.ensures.value) in
     let none = rw c.in-None.is at found in
-    let is_number = ap (λ (b : Inbox). b.router) c.index.ensures ∙ number_here (λ b. b.router) boxes c.args.number c.in_ok-at.at box at in
-    let all0 = all_here (λ b. b.router) (λ i. map (λ p. p.peer) i.pipes.items ≡ peers net i.router) boxes c.args.number c.in_ok-at.at box at c.requires.pipes in
-    let all = subst (λ (b : Inbox). map (λ p. p.peer) b.pipes.items ≡ peers net b.router) (sym c.index.ensures) all0 ∙ ap (peers net) is_number in
+    let all = ap (λ (b : Inbox). map (λ p. p.peer) b.pipes.items) c.index.ensures ∙ peers_here (view_of c.args.self.now) c.args.number c.in_ok-at.at box c.in_ok-at.ensures in
     λ g e a. no_link g net c.args.number c.args.peer a e (c.in_ok-at.ensures.known g e) (c.in_ok-place.ensures.known g e)
     (unlinked c.linked_routers_are_peers.ensures net c.requires.network c.args.number c.args.peer box.pipes.items all none)

@@ -9,26 +9,26 @@ use Rattle.world_core.proofs.state.State.link_is_idle_at.Goals as goal
 
 pub index-requires : goal.index-requires
 index-requires c =
-    let inside = is_below (λ b. b.router) c.args.self.now.inboxes.items c.args.number c.args.at c.requires.link.here.inbox in
+    let inside = is_below (λ b. b.router) c.args.self.now.inboxes.items c.args.number c.args.at c.requires.here.inbox in
     search rules
 
 pub index-requires-2 : goal.index-requires-2
 index-requires-2 c =
-    let at = subst (λ (i : Inbox). IsAt (λ p. p.peer) i.pipes.items c.args.peer c.args.pipe) (sym c.index.ensures) (c.requires.link.pipe c.index.result.now) in
+    let at = subst (λ (i : Inbox). IsAt (λ p. p.peer) i.pipes.items c.args.peer c.args.pipe) (sym c.index.ensures) (c.requires.pipe c.index.result.now) in
     let inside = is_below (λ p. p.peer) c.index.result.now.pipes.items c.args.peer c.args.pipe at in
     search rules
 
 pub index-requires-in-None : goal.index-requires-in-None
 index-requires-in-None c =
-    let inside = is_below (λ r. r.number) c.args.self.now.routers.items c.args.number c.args.at c.requires.link.here.router in
+    let inside = is_below (λ r. r.number) c.args.self.now.routers.items c.args.number c.args.at c.requires.here.router in
     search rules
 
 pub returns-in-None : goal.returns-in-None
 returns-in-None c = λ yes.
-    quiet (view_of c.args.self.now) c.args.number c.args.peer c.args.at c.args.pipe c.index-in-None.result.now c.index.result.now c.index-2.result.now c.requires.whole c.requires.link
+    quiet (view_of c.args.self.now) c.args.number c.args.peer c.args.at c.args.pipe c.index-in-None.result.now c.index.result.now c.index-2.result.now c.requires
     c.index-in-None.ensures c.index.ensures c.index-2.ensures (empty_is c.index-2.result.now.items.items c.in-None.ensures.item.3) (λ cut. sym (c.link_is_idle_at.ensures cut) ∙ yes)
 
 pub link_is_idle_at-requires : goal.link_is_idle_at-requires
 link_is_idle_at-requires c = record {
-  stands = peer_placed (view_of c.args.self.now) c.args.number c.args.peer c.args.at c.args.pipe c.index-in-None.result.now c.requires.whole c.requires.link c.index-in-None.ensures;
+  stands = peer_placed (view_of c.args.self.now) c.args.number c.args.peer c.args.at c.args.pipe c.index-in-None.result.now c.requires c.index-in-None.ensures;
 }

@@ -7,12 +7,12 @@ use Rattle.world_core.proofs.state.State.places.Goals as goal
 pub returns-in-Some : goal.returns-in-Some
 returns-in-Some c =
     let x = view_of c.args.self.now in
-    finds_linked c.link.result x c.args.event.now c.in-Some.peer c.requires (sym c.in-Some.is ∙ c.peer.ensures) (subst (λ (u : ℕ). FindsLink c.link.result x u c.in-Some.peer) c.router.ensures c.link.ensures)
+    finds_linked c.link.result x c.args.event.now c.in-Some.peer (sym c.in-Some.is ∙ c.peer.ensures) (subst (λ (u : ℕ). FindsLink c.link.result x u c.in-Some.peer) c.router.ensures c.link.ensures)
 
 pub returns-in_ok-place-in-None : goal.returns-in_ok-place-in-None
 returns-in_ok-place-in-None c =
     let x = view_of c.args.self.now in
-    placed_alone x c.args.event.now c.in_ok-place-in-None.field-0 c.requires (sym c.in-None.is ∙ c.peer.ensures) (subst (λ (u : ℕ). StandsAt x u c.in_ok-place-in-None.field-0) c.router-in-None.ensures c.in_ok-place-in-None.ensures)
+    placed_alone x c.args.event.now c.in_ok-place-in-None.field-0 (sym c.in-None.is ∙ c.peer.ensures) (subst (λ (u : ℕ). StandsAt x u c.in_ok-place-in-None.field-0) c.router-in-None.ensures c.in_ok-place-in-None.ensures)
 
 pub returns-in_err-place-in-None : goal.returns-in_err-place-in-None
 returns-in_err-place-in-None c =

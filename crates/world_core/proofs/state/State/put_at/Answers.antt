@@ -10,9 +10,6 @@ use Rattle.world_core.proofs.Stepping.{stands}
 use Rattle.world_core.proofs.Moving.{PipeAt, put_steps, whole_pipe}
 use Rattle.world_core.proofs.state.State.put_at.Goals as goal
 
-pub returns-then-puts_nothing_at-clause-answers : goal.returns-then-puts_nothing_at-clause-answers
-returns-then-puts_nothing_at-clause-answers c = c.puts_nothing_at.ensures c.if-puts_nothing_at.true
-
 pub index_mut-requires : goal.index_mut-requires
 index_mut-requires c =
     let inside = is_below (λ b. b.router) c.args.self.now.inboxes.items c.args.peer c.back_at-to.result.0 c.back_at-to.ensures.here.inbox in
@@ -26,30 +23,30 @@ index_mut-requires-2 c =
 
 pub index_mut-requires-3 : goal.index_mut-requires-3
 index_mut-requires-3 c =
-    let inside = is_below (λ r. r.number) c.args.self.now.routers.items c.args.number c.args.at c.requires.link.here.router in
+    let inside = is_below (λ r. r.number) c.args.self.now.routers.items c.args.number c.args.at c.requires.here.router in
     search rules
 
-pub returns-clause-answers : goal.returns-clause-answers
-returns-clause-answers c =
+pub returns : goal.returns
+returns c =
     let x = view_of c.args.self.now in
+    let u = c.args.number in
+    let v = c.args.peer in
+    let to = c.back_at-to.result.0 in
+    let into = c.back_at-to.result.1 in
+    let xr = c.index_mut-3.result.now in
+    let y = c.enter_put.new.router in
+    let run = c.enter_put.new.run.items in
     let old = c.index_mut.result.now in
     let p = c.index_mut-2.result.now in
     let q : Pipe = record { peer = p.peer; router = p.router; back = p.back; items = c.enter_put.new.pipe } in
-    let new : Inbox = record { router = old.router; pipes = with_item old.pipes c.back_at-to.result.1 q } in
-    let pipe : PipeAt x c.args.peer c.args.number c.back_at-to.result.0 c.back_at-to.result.1 old new p q = record { link = c.back_at-to.ensures; was = c.index_mut.ensures.value; held = c.index_mut-2.ensures.value; router = refl; pipes = refl; peer = refl; back = λ net u h. h } in
-    put_steps c.answers_are_steps.ensures x c.args.number c.args.peer c.args.at c.back_at-to.result.0 c.back_at-to.result.1 c.index_mut-3.result.now c.enter_put.new.router old new p q c.enter_put.new.run.items c.enter_put.result
-    c.requires.whole c.requires.link.here pipe c.index_mut-3.ensures.value c.enter_put.ensures.enters c.enter_put.ensures.same
-
-pub returns-clause-whole : goal.returns-clause-whole
-returns-clause-whole c =
-    let x = view_of c.args.self.now in
-    let old = c.index_mut.result.now in
-    let p = c.index_mut-2.result.now in
-    let q : Pipe = record { peer = p.peer; router = p.router; back = p.back; items = c.enter_put.new.pipe } in
-    let new : Inbox = record { router = old.router; pipes = with_item old.pipes c.back_at-to.result.1 q } in
-    let pipe : PipeAt x c.args.peer c.args.number c.back_at-to.result.0 c.back_at-to.result.1 old new p q = record { link = c.back_at-to.ensures; was = c.index_mut.ensures.value; held = c.index_mut-2.ensures.value; router = refl; pipes = refl; peer = refl; back = λ net u h. h } in
-    let s = stands x c.args.number c.args.at c.index_mut-3.result.now c.requires.whole c.requires.link.here c.index_mut-3.ensures.value in
-    whole_pipe x c.args.peer c.args.number c.args.number c.args.at c.back_at-to.result.0 c.back_at-to.result.1 c.enter_put.new.router old new p q c.enter_put.new.run.items c.requires.whole c.requires.link.here pipe (c.enter_put.ensures.same.number ∙ s.0) (c.enter_put.ensures.same.net ∙ s.1)
+    let new : Inbox = record { router = old.router; pipes = with_item old.pipes into q } in
+    let pipe : PipeAt x v u to into old new p q = record { link = c.back_at-to.ensures; was = c.index_mut.ensures.value; held = c.index_mut-2.ensures.value; router = refl; pipes = refl; peer = refl; back = λ net u h. h } in
+    let s = stands x u c.args.at xr c.requires.here c.index_mut-3.ensures.value in
+    record {
+      answers = put_steps c.answers_are_steps.ensures x u v c.args.at to into xr y old new p q run c.enter_put.result c.requires.here pipe c.index_mut-3.ensures.value c.enter_put.ensures.enters c.enter_put.ensures.same;
+      whole = whole_pipe x v u u c.args.at to into y old new p q run c.requires.here pipe (c.enter_put.ensures.same.number ∙ s.0) (c.enter_put.ensures.same.net ∙ s.1);
+      same = refl;
+    }
 
 pub enter_put-requires : goal.enter_put-requires
-enter_put-requires c = peer_placed (view_of c.args.self.now) c.args.number c.args.peer c.args.at c.args.pipe c.index_mut-3.result.now c.requires.whole c.requires.link c.index_mut-3.ensures.value
+enter_put-requires c = peer_placed (view_of c.args.self.now) c.args.number c.args.peer c.args.at c.args.pipe c.index_mut-3.result.now c.requires c.index_mut-3.ensures.value

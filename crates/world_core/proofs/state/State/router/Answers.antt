@@ -12,7 +12,7 @@ index-requires c =
 
 pub returns-in-Ok : goal.returns-in-Ok
 returns-in-Ok c =
-    let s = stands (view_of c.args.self.now) c.args.number c.in-Ok.at c.index.result.now c.requires c.in-Ok.ensures c.index.ensures in
+    let s = stands (view_of c.args.self.now) c.args.number c.in-Ok.at c.index.result.now c.in-Ok.ensures c.index.ensures in
     record { number = s.0; network = s.1; state = sym s.2 }
 
 pub returns-in-Err : goal.returns-in-Err

@@ -3,11 +3,21 @@ use Rattle.std.specs.Prelude.{slice_get, Some}
 use Rattle.std.proofs.lemmas.Result.{err_from_is_err_and}
 use Rattle.ranked_policy.specs.Plans.{Plan, numbers}
 use Rattle.world_core.specs.declared.schedule.Event.TheVariants as schedule
+use Rattle.world_core.specs.Steps.{view_of, IsIdle}
+use Rattle.world_core.specs.Views.{WorldView}
+use Rattle.world_core.proofs.Staying.{stands_here}
 use Rattle.world_core.proofs.Watched.{idle_over, watched_before, watched_behind}
 use Rattle.world_core.proofs.world.World.alone.Goals as goal
 
+pub is_idle_at-requires : goal.is_idle_at-requires
+is_idle_at-requires g c =
+    stands_here (view_of c.self.inside.state) c.args.number c.args.at c.self.invariant.0
+    (subst (λ (y : WorldView). slice_get (numbers y.net.routers) c.args.at ≡ Some c.args.number) (sym c.self.view_is) c.requires)
+
 pub returns-then-is_idle_at-clause-watches : goal.returns-then-is_idle_at-clause-watches
-returns-then-is_idle_at-clause-watches g c = idle_over g.W.Watch.says g.W.Watch.may_want c.args.self.now c.args.number (g.W.Watch.said c.args.watcher.now) (c.is_idle_at.ensures c.if-is_idle_at.true)
+returns-then-is_idle_at-clause-watches g c =
+    idle_over g.W.Watch.says g.W.Watch.may_want c.args.self.now c.args.number (g.W.Watch.said c.args.watcher.now)
+    (subst (λ (y : WorldView). IsIdle y c.args.number) c.self.view_is (c.is_idle_at.ensures c.if-is_idle_at.true))
 
 pub returns-in_err-watched-clause-watches : goal.returns-in_err-watched-clause-watches
 returns-in_err-watched-clause-watches g c =
@@ -44,8 +54,11 @@ returns-clause-watches g c =
     watched_behind says may c.args.self.now x z (schedule.Decide u ∷ []) (schedule.Advertise u ∷ schedule.Offer u ∷ []) c.watched-3.result (g.W.Watch.said c.args.watcher.now) one three c.watched.ensures.same c.in_ok-watched.ensures.watches
     (watched_behind says may x y z (schedule.Advertise u ∷ []) (schedule.Offer u ∷ []) c.watched-3.result one two three c.watched-2.ensures.same c.in_ok-watched-2.ensures.watches c.watched-3.ensures.watches)
 
+pub watched-requires : goal.watched-requires
+watched-requires g c = (c.requires, tt)
+
 pub watched-requires-2 : goal.watched-requires-2
-watched-requires-2 g c = subst (λ (n : Plan). slice_get (numbers n.routers) c.args.at ≡ Some c.args.number) (sym c.watched.ensures.same) c.requires
+watched-requires-2 g c = (subst (λ (n : Plan). slice_get (numbers n.routers) c.args.at ≡ Some c.args.number) (sym c.watched.ensures.same) c.requires, tt)
 
 pub watched-requires-3 : goal.watched-requires-3
-watched-requires-3 g c = subst (λ (n : Plan). slice_get (numbers n.routers) c.args.at ≡ Some c.args.number) (sym (c.watched-2.ensures.same ∙ c.watched.ensures.same)) c.requires
+watched-requires-3 g c = (subst (λ (n : Plan). slice_get (numbers n.routers) c.args.at ≡ Some c.args.number) (sym (c.watched-2.ensures.same ∙ c.watched.ensures.same)) c.requires, tt)

@@ -7,7 +7,7 @@ use Rattle.ranked_policy.specs.declared.network.NetRouter.{NetRouter}
 use Rattle.ranked_policy.specs.Plans.{Plan, numbers}
 use Rattle.world_core.specs.declared.schedule.Event.{Event}
 use Rattle.world_core.specs.Orders.{turn, round}
-use Rattle.world_core.proofs.Awake.{router_at}
+use Rattle.world_core.proofs.Awake.{read_here}
 use Rattle.world_core.proofs.Orders.{all_done, one_done, one_among}
 use Rattle.world_core.specs.Watching.{WatchesEvents}
 use Rattle.world_core.proofs.Watched.{none_watched, watched_next, watched_until}
@@ -22,7 +22,7 @@ visit-requires-clause-router g c =
     let items = c.routers-router-items.result.now in
     let inside : l.at < length items = omega (arith, c.loop-at-test.true) in
     let all = c.routers-router-items.ensures.value ∙ ap (λ (n : Plan). n.routers) (c.network.ensures ∙ sym l.invariant.net) in
-    subst (λ (rs : List NetRouter). slice_get (numbers rs) l.at ≡ Some c.router-item.result.asn) all (router_at items l.at c.router-item.result inside c.router-item.is)
+    subst (λ (rs : List NetRouter). slice_get (numbers rs) l.at ≡ Some c.router-item.result.asn) all (read_here (λ r. r.asn) items l.at c.router-item.result inside c.router-item.is)
 
 pub returns-in_err-visit-clause-watches : goal.returns-in_err-visit-clause-watches
 returns-in_err-visit-clause-watches g c =

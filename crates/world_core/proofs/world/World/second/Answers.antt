@@ -8,7 +8,7 @@ use Rattle.world_core.specs.declared.schedule.Event.{Event}
 use Rattle.world_core.specs.declared.schedule.Event.TheVariants as schedule
 use Rattle.world_core.specs.Orders.{second}
 use Rattle.world_core.specs.Watching.{WatchesEvents}
-use Rattle.world_core.proofs.Awake.{router_at}
+use Rattle.world_core.proofs.Awake.{read_here}
 use Rattle.world_core.proofs.Orders.{all_done, one_done, one_among, ticks_are}
 use Rattle.world_core.proofs.Watched.{none_watched, watched_next, watched_until}
 use Rattle.world_core.proofs.world.World.second.Goals as goal
@@ -22,7 +22,7 @@ watched-requires g c =
     let items = c.routers-router-items.result.now in
     let inside : l.at < length items = omega (arith, c.loop-at-test.true) in
     let all = c.routers-router-items.ensures.value ∙ ap (λ (n : Plan). n.routers) (c.network.ensures ∙ sym l.invariant.net) in
-    subst (λ (rs : List NetRouter). slice_get (numbers rs) l.at ≡ Some c.router-item.result.asn) all (router_at items l.at c.router-item.result inside c.router-item.is)
+    (subst (λ (rs : List NetRouter). slice_get (numbers rs) l.at ≡ Some c.router-item.result.asn) all (read_here (λ r. r.asn) items l.at c.router-item.result inside c.router-item.is), tt)
 
 pub returns-in_err-watched-clause-watches : goal.returns-in_err-watched-clause-watches
 returns-in_err-watched-clause-watches g c =

@@ -3,6 +3,7 @@ use Rattle.std.specs.Prelude.{slice_get, Some}
 use Rattle.std.proofs.lemmas.Result.{err_from_is_err_and}
 use Rattle.ranked_policy.specs.Plans.{Plan, IsNetwork, numbers}
 use Rattle.world_core.specs.Orders.{turn}
+use Rattle.world_core.specs.Views.{WorldView}
 use Rattle.world_core.proofs.Awake.{beside_from, resting_from, resting_marked, rests_now}
 use Rattle.world_core.proofs.Watched.{passed_over, obeyed}
 use Rattle.world_core.proofs.world.World.visit.Goals as goal
@@ -15,7 +16,7 @@ returns-then-is_marked-clause-watches g c =
 
 pub turn-requires-clause-resting : goal.turn-requires-clause-resting
 turn-requires-clause-resting g c =
-    let is_net = subst IsNetwork c.network-network.ensures c.built.ensures.network in
+    let is_net = subst IsNetwork (ap (λ (y : WorldView). y.net) c.self.view_is) c.self.invariant.0.network in
     beside_from c.args.self.now c.args.number c.args.at c.args.marks.now.items is_net c.requires.router (λ h. let k = c.is_marked.ensures.1 (ap (λ ms. slice_get ms c.args.at) c.as_slice.ensures.value ∙ h) in absurd cc) c.requires.resting
 
 pub returns-in_err-turn-clause-watches : goal.returns-in_err-turn-clause-watches
