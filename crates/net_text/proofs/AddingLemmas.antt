@@ -68,35 +68,25 @@ known_asn width routers a u h =
 
 -- ---- what a good line adds
 
-pub record AddsRouter (d e : NetworkSoFar) (words : List Text) : Type 0 where
+-- a line has a word, and two behind it, each read in its way; they make a draft
+pub record AddsTwo {X Y : Type 0} (word : Text) (read : Text → Result X Code) (read_other : Text → Result Y Code) (make : X → Y → NetworkSoFar) (e : NetworkSoFar) (words : List Text) : Type 0 where
   pub a : Text
   pub b : Text
-  pub u : ℕ
-  pub id : ℕ
-  pub are : words ≡ codes "router" ∷ a ∷ b ∷ []
-  pub one : asn_word Four a ≡ Ok u
-  pub other : id_word b ≡ Ok id
-  pub new : with_router d u id ≡ e
+  pub x : X
+  pub y : Y
+  pub are : words ≡ word ∷ a ∷ b ∷ []
+  pub one : read a ≡ Ok x
+  pub other : read_other b ≡ Ok y
+  pub new : make x y ≡ e
 
-pub record AddsLink (d e : NetworkSoFar) (words : List Text) : Type 0 where
-  pub a : Text
-  pub b : Text
-  pub u : ℕ
-  pub v : ℕ
-  pub are : words ≡ codes "link" ∷ a ∷ b ∷ []
-  pub one : asn_word Four a ≡ Ok u
-  pub other : asn_word Four b ≡ Ok v
-  pub new : record d { net = with_link d.net u v } ≡ e
+abbrev pub AddsRouter : NetworkSoFar → NetworkSoFar → List Text → Type 0
+AddsRouter d e words = AddsTwo (codes "router") (asn_word Four) id_word (with_router d) e words
 
-pub record AddsOrigin (d e : NetworkSoFar) (words : List Text) : Type 0 where
-  pub a : Text
-  pub b : Text
-  pub u : ℕ
-  pub q : PrefixView
-  pub are : words ≡ codes "origin" ∷ a ∷ b ∷ []
-  pub one : asn_word Four a ≡ Ok u
-  pub other : prefix_word b ≡ Ok q
-  pub new : with_origin d u q ≡ e
+abbrev pub AddsLink : NetworkSoFar → NetworkSoFar → List Text → Type 0
+AddsLink d e words = AddsTwo (codes "link") (asn_word Four) (asn_word Four) (λ u v. record d { net = with_link d.net u v }) e words
+
+abbrev pub AddsOrigin : NetworkSoFar → NetworkSoFar → List Text → Type 0
+AddsOrigin d e words = AddsTwo (codes "origin") (asn_word Four) prefix_word (with_origin d) e words
 
 pub record AddsRule (d e : NetworkSoFar) (words : List Text) : Type 0 where
   pub rest : List Text
@@ -125,8 +115,8 @@ router_adds d e (a ∷ b ∷ []) h =
     record {
       a = a;
       b = b;
-      u = one.0;
-      id = other.0;
+      x = one.0;
+      y = other.0;
       are = refl;
       one = wide_asn (width_named d.named) a one.0 one.1;
       other = other.1;
@@ -143,8 +133,8 @@ link_adds d e (a ∷ b ∷ []) h =
     record {
       a = a;
       b = b;
-      u = one.0;
-      v = other.0;
+      x = one.0;
+      y = other.0;
       are = refl;
       one = known_asn (width_named d.named) d.net.routers a one.0 one.1;
       other = known_asn (width_named d.named) d.net.routers b other.0 other.1;
@@ -161,8 +151,8 @@ origin_adds d e (a ∷ b ∷ []) h =
     record {
       a = a;
       b = b;
-      u = one.0;
-      q = other.0;
+      x = one.0;
+      y = other.0;
       are = refl;
       one = known_asn (width_named d.named) d.net.routers a one.0 one.1;
       other = other.1;

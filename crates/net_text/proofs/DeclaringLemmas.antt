@@ -8,17 +8,18 @@ use Rattle.ranked_policy.specs.declared.network.Link.{Link}
 use Rattle.ranked_policy.specs.declared.network.Origin.{Origin}
 use Rattle.ranked_policy.specs.declared.network.RankRule.{RankRule}
 use Rattle.ranked_policy.specs.Plans.{Plan}
+use Rattle.ranked_policy.specs.Adding.{with_link}
 use Rattle.bgp_values.specs.declared.width.Width.TheVariants.{Four}
 use Rattle.net_text.specs.declared.code.Code.{Code}
 use Rattle.net_text.specs.declared.network_so_far.NetworkSoFar.{NetworkSoFar}
 use Rattle.net_text.specs.Lexing.{Text, same, words_of}
 use Rattle.net_text.specs.Layout.{HasWords}
 use Rattle.net_text.specs.Words.{asn_word, id_word, prefix_word}
-use Rattle.net_text.specs.Lines.{among, new_router, is_below, new_origin, comes_before, ruled, line_reading}
+use Rattle.net_text.specs.Lines.{among, new_router, is_below, with_router, new_origin, comes_before, with_origin, ruled, line_reading}
 use Rattle.net_text.specs.Networks.{reading, then_on, empty_draft}
 use Rattle.net_text.specs.Declaring.{AnyOf, NamesRouter, NamesLink, NamesOrigin, NetworksHaveWhatIsNamed}
 use Rattle.net_text.proofs.LayoutLemmas.{words_stand_between_blanks}
-use Rattle.net_text.proofs.AddingLemmas.{AddsRouter, AddsLink, AddsOrigin, other_word, adds}
+use Rattle.net_text.proofs.AddingLemmas.{AddsTwo, other_word, adds}
 
 -- ---- lists with one more
 
@@ -120,6 +121,21 @@ one_reading read a x u v e h k =
     let same_answer = sym h ∙ ap read e ∙ k in
     cc
 
+-- a word, then two words that are read as these
+module _ {X Y : Type 0} (word : Text) (read : Text → Result X Code) (read_other : Text → Result Y Code) (x : X) (y : Y) where
+  abbrev NamesTwo : Text → Type 0
+  NamesTwo line = (a : Text) × (b : Text) × HasWords line (word ∷ a ∷ b ∷ []) × (read a ≡ Ok x) × (read_other b ≡ Ok y)
+
+  names_two : (make : X → Y → NetworkSoFar) (line : Text) (e : NetworkSoFar) (h : AddsTwo word read read_other make e (words_of line)) → (h.x ≡ x) × (h.y ≡ y) ↔ NamesTwo line
+  names_two make line e h = (
+    λ k. (h.a, h.b, has_words line _ h.are, h.one ∙ ap (λ (n : X). Ok n) k.0, h.other ∙ ap (λ (n : Y). Ok n) k.1),
+    λ k. let same_words = two_words word h.a h.b k.0 k.1 (sym h.are ∙ sym (here_words line _ k.2)) in
+        (one_reading read h.a k.0 h.x x same_words.0 h.one k.3, one_reading read_other h.b k.1 h.y y same_words.1 h.other k.4),
+  )
+
+  not_named : same word word ≡ true → (line other : Text) (rest : List Text) → words_of line ≡ other ∷ rest → same other word ≡ false → NamesTwo line → ⊥
+  not_named fits line other rest is differs k = other_word other word rest (k.0 ∷ k.1 ∷ []) differs fits (sym is ∙ sym (here_words line _ k.2))
+
 -- ---- routers
 
 ruled_by : (u id v : ℕ) (rule : RankRule) (r : NetRouter) (b : Bool) → ((cond b (record r { rules = r.rules ++ rule ∷ [] }) r).asn ≡ u) × ((cond b (record r { rules = r.rules ++ rule ∷ [] }) r).id ≡ id) ↔ (r.asn ≡ u) × (r.id ≡ id)
@@ -130,31 +146,21 @@ module _ (u id : ℕ) where
   abbrev IsIt : NetRouter → Type 0
   IsIt r = (r.asn ≡ u) × (r.id ≡ id)
 
-  names_router : (line : Text) (d e : NetworkSoFar) (h : AddsRouter d e (words_of line)) → IsIt (new_router h.u h.id) ↔ NamesRouter u id line
-  names_router line d e h = (
-    λ k. (h.a, h.b, has_words line _ h.are, h.one ∙ ap (λ (n : ℕ). Ok n) k.0, h.other ∙ ap (λ (n : ℕ). Ok n) k.1),
-    λ k. let same_words = two_words (codes "router") h.a h.b k.0 k.1 (sym h.are ∙ sym (here_words line _ k.2)) in
-        (one_reading (asn_word Four) h.a k.0 h.u u same_words.0 h.one k.3, one_reading id_word h.b k.1 h.id id same_words.1 h.other k.4),
-  )
-
-  not_named : (line c : Text) (rest : List Text) → words_of line ≡ c ∷ rest → same c (codes "router") ≡ false → NamesRouter u id line → ⊥
-  not_named line c rest is differs k = other_word c (codes "router") rest (k.0 ∷ k.1 ∷ []) differs refl (sym is ∙ sym (here_words line _ k.2))
-
   router_goes : Goes IsIt (λ d. d.net.routers) (NamesRouter u id)
   router_goes d e line h =
       elim (adds d e line h) [
-        | inl r ↦ gained IsIt (λ d. d.net.routers) (NamesRouter u id) d e line (new_router r.u r.id)
-            (subst (λ (x : NetworkSoFar). AnyOf IsIt x.net.routers ↔ IsIt (new_router r.u r.id) ⊎ AnyOf IsIt d.net.routers) r.new (among_has IsIt is_below d.net.routers (new_router r.u r.id)))
-            (names_router line d e r)
+        | inl r ↦ gained IsIt (λ d. d.net.routers) (NamesRouter u id) d e line (new_router r.x r.y)
+            (subst (λ (x : NetworkSoFar). AnyOf IsIt x.net.routers ↔ IsIt (new_router r.x r.y) ⊎ AnyOf IsIt d.net.routers) r.new (among_has IsIt is_below d.net.routers (new_router r.x r.y)))
+            (names_two (codes "router") (asn_word Four) id_word u id (with_router d) line e r)
         | inr k ↦ elim k [
-          | inl l ↦ unchanged IsIt (λ d. d.net.routers) (NamesRouter u id) d e line (ap (λ (x : NetworkSoFar). x.net.routers) (sym l.new)) (not_named line _ _ l.are refl)
+          | inl l ↦ unchanged IsIt (λ d. d.net.routers) (NamesRouter u id) d e line (ap (λ (x : NetworkSoFar). x.net.routers) (sym l.new)) (not_named (codes "router") (asn_word Four) id_word u id refl line _ _ l.are refl)
           | inr k ↦ elim k [
-            | inl o ↦ unchanged IsIt (λ d. d.net.routers) (NamesRouter u id) d e line (ap (λ (x : NetworkSoFar). x.net.routers) (sym o.new)) (not_named line _ _ o.are refl)
+            | inl o ↦ unchanged IsIt (λ d. d.net.routers) (NamesRouter u id) d e line (ap (λ (x : NetworkSoFar). x.net.routers) (sym o.new)) (not_named (codes "router") (asn_word Four) id_word u id refl line _ _ o.are refl)
             | inr k ↦ elim k [
               | inl r ↦ (
                   let kept = map_has IsIt (ruled r.u (record { prefix = r.q; paths = r.paths })) (λ x. ruled_by u id r.u (record { prefix = r.q; paths = r.paths }) x (x.asn == r.u)) d.net.routers in
                   let all = subst (λ (x : NetworkSoFar). AnyOf IsIt x.net.routers ↔ AnyOf IsIt d.net.routers) r.new kept in
-                  (λ has. inl (all.0 has), λ has. elim has [ inl old ↦ all.1 old | inr new ↦ absurd (not_named line _ _ r.are refl new) ])
+                  (λ has. inl (all.0 has), λ has. elim has [ inl old ↦ all.1 old | inr new ↦ absurd (not_named (codes "router") (asn_word Four) id_word u id refl line _ _ r.are refl new) ])
                   )
               | inr n ↦ unchanged IsIt (λ d. d.net.routers) (NamesRouter u id) d e line (ap (λ (x : Plan). x.routers) n.new) (λ k. n.router k.0 k.1 (sym (here_words line _ k.2)))
             ]
@@ -168,28 +174,18 @@ module _ (u v : ℕ) where
   abbrev IsThat : Link → Type 0
   IsThat l = (l.one ≡ u) × (l.other ≡ v)
 
-  names_link : (line : Text) (d e : NetworkSoFar) (h : AddsLink d e (words_of line)) → IsThat (record { one = h.u; other = h.v }) ↔ NamesLink u v line
-  names_link line d e h = (
-    λ k. (h.a, h.b, has_words line _ h.are, h.one ∙ ap (λ (n : ℕ). Ok n) k.0, h.other ∙ ap (λ (n : ℕ). Ok n) k.1),
-    λ k. let same_words = two_words (codes "link") h.a h.b k.0 k.1 (sym h.are ∙ sym (here_words line _ k.2)) in
-        (one_reading (asn_word Four) h.a k.0 h.u u same_words.0 h.one k.3, one_reading (asn_word Four) h.b k.1 h.v v same_words.1 h.other k.4),
-  )
-
-  no_link : (line c : Text) (rest : List Text) → words_of line ≡ c ∷ rest → same c (codes "link") ≡ false → NamesLink u v line → ⊥
-  no_link line c rest is differs k = other_word c (codes "link") rest (k.0 ∷ k.1 ∷ []) differs refl (sym is ∙ sym (here_words line _ k.2))
-
   link_goes : Goes IsThat (λ d. d.net.links) (NamesLink u v)
   link_goes d e line h =
       elim (adds d e line h) [
-        | inl r ↦ unchanged IsThat (λ d. d.net.links) (NamesLink u v) d e line (ap (λ (x : NetworkSoFar). x.net.links) (sym r.new)) (no_link line _ _ r.are refl)
+        | inl r ↦ unchanged IsThat (λ d. d.net.links) (NamesLink u v) d e line (ap (λ (x : NetworkSoFar). x.net.links) (sym r.new)) (not_named (codes "link") (asn_word Four) (asn_word Four) u v refl line _ _ r.are refl)
         | inr k ↦ elim k [
-          | inl l ↦ gained IsThat (λ d. d.net.links) (NamesLink u v) d e line (record { one = l.u; other = l.v })
-              (subst (λ (x : NetworkSoFar). AnyOf IsThat x.net.links ↔ IsThat (record { one = l.u; other = l.v }) ⊎ AnyOf IsThat d.net.links) l.new (behind_has IsThat d.net.links (record { one = l.u; other = l.v })))
-              (names_link line d e l)
+          | inl l ↦ gained IsThat (λ d. d.net.links) (NamesLink u v) d e line (record { one = l.x; other = l.y })
+              (subst (λ (x : NetworkSoFar). AnyOf IsThat x.net.links ↔ IsThat (record { one = l.x; other = l.y }) ⊎ AnyOf IsThat d.net.links) l.new (behind_has IsThat d.net.links (record { one = l.x; other = l.y })))
+              (names_two (codes "link") (asn_word Four) (asn_word Four) u v (λ a b. record d { net = with_link d.net a b }) line e l)
           | inr k ↦ elim k [
-            | inl o ↦ unchanged IsThat (λ d. d.net.links) (NamesLink u v) d e line (ap (λ (x : NetworkSoFar). x.net.links) (sym o.new)) (no_link line _ _ o.are refl)
+            | inl o ↦ unchanged IsThat (λ d. d.net.links) (NamesLink u v) d e line (ap (λ (x : NetworkSoFar). x.net.links) (sym o.new)) (not_named (codes "link") (asn_word Four) (asn_word Four) u v refl line _ _ o.are refl)
             | inr k ↦ elim k [
-              | inl r ↦ unchanged IsThat (λ d. d.net.links) (NamesLink u v) d e line (ap (λ (x : NetworkSoFar). x.net.links) (sym r.new)) (no_link line _ _ r.are refl)
+              | inl r ↦ unchanged IsThat (λ d. d.net.links) (NamesLink u v) d e line (ap (λ (x : NetworkSoFar). x.net.links) (sym r.new)) (not_named (codes "link") (asn_word Four) (asn_word Four) u v refl line _ _ r.are refl)
               | inr n ↦ unchanged IsThat (λ d. d.net.links) (NamesLink u v) d e line (ap (λ (x : Plan). x.links) n.new) (λ k. n.link k.0 k.1 (sym (here_words line _ k.2)))
             ]
           ]
@@ -202,28 +198,18 @@ module _ (u : ℕ) (q : PrefixView) where
   abbrev IsHere : Origin → Type 0
   IsHere o = (o.router ≡ u) × (o.prefix ≡ q)
 
-  names_origin : (line : Text) (d e : NetworkSoFar) (h : AddsOrigin d e (words_of line)) → IsHere (new_origin h.u h.q) ↔ NamesOrigin u q line
-  names_origin line d e h = (
-    λ k. (h.a, h.b, has_words line _ h.are, h.one ∙ ap (λ (n : ℕ). Ok n) k.0, h.other ∙ ap (λ (p : PrefixView). Ok p) k.1),
-    λ k. let same_words = two_words (codes "origin") h.a h.b k.0 k.1 (sym h.are ∙ sym (here_words line _ k.2)) in
-        (one_reading (asn_word Four) h.a k.0 h.u u same_words.0 h.one k.3, one_reading prefix_word h.b k.1 h.q q same_words.1 h.other k.4),
-  )
-
-  no_origin : (line c : Text) (rest : List Text) → words_of line ≡ c ∷ rest → same c (codes "origin") ≡ false → NamesOrigin u q line → ⊥
-  no_origin line c rest is differs k = other_word c (codes "origin") rest (k.0 ∷ k.1 ∷ []) differs refl (sym is ∙ sym (here_words line _ k.2))
-
   origin_goes : Goes IsHere (λ d. d.net.origins) (NamesOrigin u q)
   origin_goes d e line h =
       elim (adds d e line h) [
-        | inl r ↦ unchanged IsHere (λ d. d.net.origins) (NamesOrigin u q) d e line (ap (λ (x : NetworkSoFar). x.net.origins) (sym r.new)) (no_origin line _ _ r.are refl)
+        | inl r ↦ unchanged IsHere (λ d. d.net.origins) (NamesOrigin u q) d e line (ap (λ (x : NetworkSoFar). x.net.origins) (sym r.new)) (not_named (codes "origin") (asn_word Four) prefix_word u q refl line _ _ r.are refl)
         | inr k ↦ elim k [
-          | inl l ↦ unchanged IsHere (λ d. d.net.origins) (NamesOrigin u q) d e line (ap (λ (x : NetworkSoFar). x.net.origins) (sym l.new)) (no_origin line _ _ l.are refl)
+          | inl l ↦ unchanged IsHere (λ d. d.net.origins) (NamesOrigin u q) d e line (ap (λ (x : NetworkSoFar). x.net.origins) (sym l.new)) (not_named (codes "origin") (asn_word Four) prefix_word u q refl line _ _ l.are refl)
           | inr k ↦ elim k [
-            | inl o ↦ gained IsHere (λ d. d.net.origins) (NamesOrigin u q) d e line (new_origin o.u o.q)
-                (subst (λ (x : NetworkSoFar). AnyOf IsHere x.net.origins ↔ IsHere (new_origin o.u o.q) ⊎ AnyOf IsHere d.net.origins) o.new (among_has IsHere comes_before d.net.origins (new_origin o.u o.q)))
-                (names_origin line d e o)
+            | inl o ↦ gained IsHere (λ d. d.net.origins) (NamesOrigin u q) d e line (new_origin o.x o.y)
+                (subst (λ (x : NetworkSoFar). AnyOf IsHere x.net.origins ↔ IsHere (new_origin o.x o.y) ⊎ AnyOf IsHere d.net.origins) o.new (among_has IsHere comes_before d.net.origins (new_origin o.x o.y)))
+                (names_two (codes "origin") (asn_word Four) prefix_word u q (with_origin d) line e o)
             | inr k ↦ elim k [
-              | inl r ↦ unchanged IsHere (λ d. d.net.origins) (NamesOrigin u q) d e line (ap (λ (x : NetworkSoFar). x.net.origins) (sym r.new)) (no_origin line _ _ r.are refl)
+              | inl r ↦ unchanged IsHere (λ d. d.net.origins) (NamesOrigin u q) d e line (ap (λ (x : NetworkSoFar). x.net.origins) (sym r.new)) (not_named (codes "origin") (asn_word Four) prefix_word u q refl line _ _ r.are refl)
               | inr n ↦ unchanged IsHere (λ d. d.net.origins) (NamesOrigin u q) d e line (ap (λ (x : Plan). x.origins) n.new) (λ k. n.origin k.0 k.1 (sym (here_words line _ k.2)))
             ]
           ]

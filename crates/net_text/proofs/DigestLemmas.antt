@@ -1,25 +1,15 @@
 -- Paths by their digests.
-use Rattle.std.proofs.Common.{◌≡◌, ℕ, ◌+◌, ◌-◌, ◌<◌, ◌≤◌, ◌==◌, ◌&&◌, Bool, true, false, List, [], ◌∷◌, ◌++◌, length, map, take, drop, get_or, refl, sym, ap, ◌∙◌, append_assoc, arith}
+use Rattle.std.proofs.Common.{◌≡◌, ℕ, ◌+◌, ◌<◌, ◌==◌, true, false, List, [], ◌∷◌, ◌++◌, length, map, take, refl, sym, ap, ◌∙◌, append_assoc}
 use Rattle.std.specs.Prelude.{slice_set, not}
 use Rattle.std.specs.List.{list_any}
 use Rattle.std.proofs.lemmas.Bool.{and_parts, and_from, or_parts, or_from, not-true, eqb-false, false_from_ne_true}
-use Rattle.std.proofs.lemmas.List.{take_more_set, take_all}
+use Rattle.std.proofs.lemmas.List.{take_more_set}
 use Rattle.ranked_policy.specs.Tests.{is_simple}
 use Rattle.net_text.specs.Lexing.{Text, same}
 use Rattle.net_text.specs.Words.{path_of}
 use Rattle.net_text.specs.Lines.{are_distinct}
 use Rattle.net_text.specs.Taking.{digest}
 use Rattle.net_text.proofs.AddingLemmas.{same_true}
-
--- one number more is there once
-pub single_on : (all left : List ℕ) (hit : Bool) → 1 ≤ length left → hit ≡ list_any (λ v. v == get_or left 0 0) (take (length left - 1) (drop 1 left)) → hit ≡ false
-    → is_simple all ≡ is_simple left → is_simple all ≡ is_simple (take (length left - 1) (drop 1 left))
-single_on all [] hit one is none_is inv = absurd (omega arith)
-single_on all (x ∷ xs) hit one is none_is inv =
-    let n = length (x ∷ xs) - 1 in
-    let whole : take n xs ≡ xs = take_all n xs (omega arith) in
-    let none : list_any (λ v. v == x) xs ≡ false = ap (λ (ys : List ℕ). list_any (λ v. v == x) ys) (sym whole) ∙ sym is ∙ none_is in
-    inv ∙ ap (λ (b : Bool). not b && is_simple xs) none ∙ ap is_simple (sym whole)
 
 -- one digest more
 pub digest_on : (digests all : List ℕ) (count d : ℕ) (left rest : List Text) (word : Text) → count < length digests → left ≡ word ∷ rest → d ≡ digest (path_of word)

@@ -14,9 +14,6 @@ use Rattle.net_text.specs.Assignments.{entry_reading, RefusesAssignment}
 use Rattle.net_text.specs.Steps.{Refuses}
 use Rattle.net_text.proofs.TextLemmas.{Reached, reached_fault, reached_memory}
 
-abbrev pub network_line : ℕ → NetworkSoFar → Text → Result NetworkSoFar Code
-network_line line d words = line_reading d words
-
 abbrev pub NetworkReached : List Text → ℕ → NetworkSoFar → List Text → Type 0
 NetworkReached lines line made left = Reached (λ line d words. line_reading d words) 0 (empty_draft lines) lines line made left
 

@@ -14,24 +14,13 @@ use Rattle.std.specs.Cmp.{tied_then}
 use Rattle.std.specs.Cmp.Lexicographic.{slice_cmp, nat_list_cmp_total}
 use denote.Ref.{Bor}
 use Rattle.net_text.specs.Lexing.{Text, same}
-use Rattle.net_text.specs.Words.{value_of}
 use Rattle.net_text.specs.Lines.{are_distinct}
 use Rattle.net_text.specs.Repeating.{path_in, AreInOrder}
-use Rattle.net_text.specs.Taking.{parts_left}
 use Rattle.net_text.proofs.AddingLemmas.{same_true}
 use Rattle.net_text.proofs.EntryLemmas.{same_number}
-use Rattle.net_text.proofs.WordLemmas.{some_part}
-
--- one of two paths has no number left
-pub order_end : (more others : Bool) (a b : Text) → (more && others) ≡ false
-    → slice_cmp nat_cmp (map value_of (parts_left more a)) (map value_of (parts_left others b)) ≡ cond more Greater (cond others Less Equal)
-order_end true true a b e = absurd cc
-order_end true false a b e = some_part (λ ps. slice_cmp nat_cmp (map value_of ps) [] ≡ Greater) 45 a (λ y ys. refl)
-order_end false true a b e = some_part (λ ps. slice_cmp nat_cmp [] (map value_of ps) ≡ Less) 45 b (λ y ys. refl)
-order_end false false a b e = refl
 
 -- lists of numbers that compare as equal are the same
-same_list : (xs ys : List ℕ) → is_eq (slice_cmp nat_cmp xs ys) ≡ same xs ys
+pub same_list : (xs ys : List ℕ) → is_eq (slice_cmp nat_cmp xs ys) ≡ same xs ys
 same_list [] [] = refl
 same_list [] (y ∷ ys) = refl
 same_list (x ∷ xs) [] = refl

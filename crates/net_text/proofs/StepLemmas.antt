@@ -24,39 +24,35 @@ use Rattle.net_text.specs.Steps.{Refuses}
 abbrev pub NoMemory : {A : Type 0} → Result A Code → Type 0
 NoMemory {A} r = let memory : Result A Code = Err codes.Memory in r ≡ memory → ⊥
 
-either_way : {A : Type 0} (b : Bool) (x y : Result A Code) → NoMemory x → NoMemory y → NoMemory (cond b x y)
+pub either_way : {A : Type 0} (b : Bool) (x y : Result A Code) → NoMemory x → NoMemory y → NoMemory (cond b x y)
 either_way true x y h k = h
 either_way false x y h k = k
 
-one_by_one : {A B : Type 0} (r : Result A Code) (f : A → Result B Code) → NoMemory r → ((x : A) → NoMemory (f x)) → NoMemory (r >>= f)
+pub one_by_one : {A B : Type 0} (r : Result A Code) (f : A → Result B Code) → NoMemory r → ((x : A) → NoMemory (f x)) → NoMemory (r >>= f)
 one_by_one (Ok x) f h k e = k x e
 one_by_one (Err code) f h k e = h (let same : code ≡ codes.Memory = cc in ap Err same)
 
-ok_no_memory : {A : Type 0} (x : A) → NoMemory {A = A} (Ok x)
-ok_no_memory x e = cc
+abbrev pub is_memory : Code → Bool
+is_memory codes.Memory = true
+is_memory code = false
 
-unreadable_no_memory : {A : Type 0} → NoMemory {A = A} (Err codes.Unreadable)
-unreadable_no_memory e = cc
+abbrev pub wants_memory : {A : Type 0} → Result A Code → Bool
+wants_memory (Ok x) = false
+wants_memory (Err code) = is_memory code
 
-limit_no_memory : {A : Type 0} → NoMemory {A = A} (Err codes.OutOfLimit)
-limit_no_memory e = cc
-
-unknown_no_memory : {A : Type 0} → NoMemory {A = A} (Err codes.UnknownRouter)
-unknown_no_memory e = cc
-
-not_simple_no_memory : {A : Type 0} → NoMemory {A = A} (Err codes.NotSimple)
-not_simple_no_memory e = cc
+pub plain : {A : Type 0} (r : Result A Code) → wants_memory r ≡ false → NoMemory r
+plain r h e = let k : false ≡ true = sym h ∙ ap wants_memory e in absurd cc
 
 pub path_no_memory : (width : Width) (routers : List NetRouter) (word : Text) → NoMemory (path_word width routers word)
-path_no_memory width routers word = either_way _ _ _ unreadable_no_memory (either_way _ _ _ limit_no_memory (either_way _ _ _ unknown_no_memory (ok_no_memory tt)))
+path_no_memory width routers word = either_way _ _ _ (plain (Err codes.Unreadable) refl) (either_way _ _ _ (plain (Err codes.OutOfLimit) refl) (either_way _ _ _ (plain (Err codes.UnknownRouter) refl) (plain (Ok tt) refl)))
 
 rule_path_no_memory : (width : Width) (routers : List NetRouter) (u : ℕ) (word : Text) → NoMemory (rule_path_word width routers u word)
 rule_path_no_memory width routers u word =
     one_by_one (path_word width routers word) (λ _. cond (is_from u (path_of word) && is_simple (path_of word)) (Ok tt) (Err codes.NotSimple)) (path_no_memory width routers word)
-    (λ _. either_way _ _ _ (ok_no_memory tt) not_simple_no_memory)
+    (λ _. either_way _ _ _ (plain (Ok tt) refl) (plain (Err codes.NotSimple) refl))
 
 pub rule_paths_no_memory : (width : Width) (routers : List NetRouter) (u : ℕ) (words : List Text) → NoMemory (rule_path_words width routers u words)
-rule_paths_no_memory width routers u [] = ok_no_memory tt
+rule_paths_no_memory width routers u [] = plain (Ok tt) refl
 rule_paths_no_memory width routers u (word ∷ words) =
     one_by_one (rule_path_word width routers u word) (λ _. rule_path_words width routers u words) (rule_path_no_memory width routers u word) (λ _. rule_paths_no_memory width routers u words)
 

@@ -131,6 +131,10 @@ abbrev pub numbers_text : List ℕ → List ℕ
 numbers_text [] = codes "none"
 numbers_text (number ∷ numbers) = join_with_byte 45 (map decimal (number ∷ numbers))
 
+-- numbers, a mark before each
+abbrev pub marked : ℕ → List ℕ → List ℕ
+marked mark numbers = flat_map (λ n. mark ∷ decimal n) numbers
+
 -- a word, a number, a prefix and a path
 unfoldable pub routed_line : List ℕ → ℕ → PrefixView → List ℕ → List ℕ
 routed_line word number prefix path = line (word ++ (decimal number ++ (prefix_text prefix ++ (codes " " ++ numbers_text path))))

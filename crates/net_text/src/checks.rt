@@ -2,22 +2,12 @@
 //!
 //! A refused call here may leave a part of its text, but what stood in front stays.
 
-ghost use Rattle.std.specs.Prelude.{◌≡◌, ◌++◌, OnOk, OnErr};
-ghost use Rattle.net_text.specs.Printing.{numbers_text, refused_line, unstable_line};
+ghost use Rattle.std.specs.Prelude.{◌≡◌, ◌++◌, OnOk};
+ghost use Rattle.net_text.specs.Printing.{refused_line, unstable_line};
 
 use crate::tail::TextTail;
 use ranked_policy::Asn;
 use std::alloc::AllocError;
-
-/// Appends a path: its numbers with dashes between them, or `none`. It is refused only for want of
-/// memory, and then nothing of it is written.
-pub fn put_path(out: &mut TextTail, numbers: &[Asn]) -> Result<(), AllocError>
-    ensures text { OnOk result (out.new.text ≡ out.old.text ++ numbers_text numbers.now) }
-    ensures err { OnErr result (out.new.text ≡ out.old.text) }
-    ensures front { out.new.front ≡ out.old.front }
-{
-    out.put_path(numbers)
-}
 
 /// Appends the line of a refusal.
 #[tactic(auto, unfolding(crate::specs::Printing::refused_line))]
@@ -46,8 +36,8 @@ pub(crate) fn put_unstable(
     out.put_text(b"unstable ")?;
     out.put_decimal(router)?;
     out.put_text(b" has ")?;
-    put_path(out, has)?;
+    out.put_path(has)?;
     out.put_text(b" best ")?;
-    put_path(out, best)?;
+    out.put_path(best)?;
     out.put_text(b"\n")
 }

@@ -1,8 +1,8 @@
 //! Numbers in decimal digits, and paths of them: at a place of a text, and behind what a buffer has.
 
 ghost use Rattle.std.specs.Prelude.{◌≡◌, ◌+◌, ◌*◌, ◌/◌, ◌%◌, ◌<◌, ◌≤◌, ◌∷◌, [], ◌++◌, length, take, map, decimal, OnOk, OnErr};
-ghost use Rattle.std.specs.List.{flat_map, join_with_byte};
-ghost use Rattle.net_text.specs.Printing.{numbers_text};
+ghost use Rattle.std.specs.List.{join_with_byte};
+ghost use Rattle.net_text.specs.Printing.{marked, numbers_text};
 
 use crate::texts::{octet_row, write_mark, write_octet, write_text};
 use bgp_codec::Asn;
@@ -72,7 +72,7 @@ pub fn write_decimal(text: &mut [u8], at: usize, number: u32) -> usize
 fn write_marked(text: &mut [u8], start: usize, numbers: &[Asn], mark: u8) -> usize
     requires { start + 13 * length numbers.now ≤ length text.old }
     ensures end { result ≤ start + 12 * length numbers.now }
-    ensures text { take result text.new ≡ take start text.old ++ flat_map (λ n. mark ∷ decimal n) numbers.now }
+    ensures text { take result text.new ≡ take start text.old ++ marked mark numbers.now }
 {
     let mut at = start;
     for number in numbers {
@@ -111,7 +111,7 @@ pub fn write_path(text: &mut [u8], start: usize, numbers: &[Asn]) -> usize
     }
 }
 
-/// Appends a number in decimal digits.
+/// Appends a number in decimal digits. A refused growth changes nothing.
 pub fn put_decimal(out: &mut Vec<u8>, number: u32) -> Result<(), AllocError>
     ensures ok { OnOk result (out.new.items ≡ out.old.items ++ decimal number) }
     ensures err { OnErr result (out.new.items ≡ out.old.items) }
@@ -136,8 +136,21 @@ pub fn put_joined(out: &mut Vec<u8>, numbers: &[Asn], mark: u8) -> Result<(), Al
     Ok(())
 }
 
-/// Appends a path. It grows once, by the most that it can take.
-pub fn put_path(out: &mut Vec<u8>, numbers: &[Asn]) -> Result<(), AllocError>
+/// Appends numbers, a mark before each. It grows once, by the most that they can take.
+pub fn put_marked(out: &mut Vec<u8>, numbers: &[Asn], mark: u8) -> Result<(), AllocError>
+    ensures ok { OnOk result (out.new.items ≡ out.old.items ++ marked mark numbers.now) }
+    ensures err { OnErr result (out.new.items ≡ out.old.items) }
+{
+    let start = out.len();
+    let room = numbers.len().saturating_mul(NUMBER_ROOM + 1);
+    out.resize(start.saturating_add(room), 0)?;
+    let end = write_marked(out.as_mut_slice(), start, numbers, mark);
+    out.truncate(end);
+    Ok(())
+}
+
+/// Appends a path, `none` if it is empty. It grows once, by the most that it can take.
+pub fn put_numbers(out: &mut Vec<u8>, numbers: &[Asn]) -> Result<(), AllocError>
     ensures ok { OnOk result (out.new.items ≡ out.old.items ++ numbers_text numbers.now) }
     ensures err { OnErr result (out.new.items ≡ out.old.items) }
 {

@@ -112,7 +112,7 @@ fn low_ones(octets: u8x8) -> u64
     octets.simd_le(u8x8::splat(b' ')).to_bitmask()
 }
 
-// The first place that can be a blank's: no octet before it is one. Eight octets are compared at a
+// The first place that can be a blank's: no octet before it is a blank. Eight octets are compared at a
 // time, and the last ones of a line not at all.
 fn blank_from(line: &[u8]) -> usize
     ensures bound { result ≤ length line.now }

@@ -19,8 +19,9 @@
 //! the public functions of [`laws`].
 //!
 //! Readers of other texts stand on the same [`lexing`] and [`words`]. Writers of other lines stand on
-//! [`path_line`] and [`TextTail`]; or, where room for a whole line was made, on [`write_text`], [`write_mark`],
-//! [`write_decimal`] and [`write_prefix`], each of which writes at a place and answers the place behind.
+//! [`path_line`], [`put_decimal`], [`put_len`], [`put_marked`], [`put_numbers`] and [`put_prefixes`], each of which appends;
+//! on [`TextTail`], which appends a line whole or not at all; or, where room for a whole line was made, on [`write_text`],
+//! [`write_mark`], [`write_decimal`] and [`write_prefix`], each of which writes at a place and answers the place behind.
 //!
 //! Left out: schedules, reports of runs, and every use of a network.
 #![tactic(auto)]
@@ -37,6 +38,7 @@ mod messages;
 mod network_lines;
 mod network_so_far;
 mod notices;
+mod numbers;
 mod path_lines;
 mod paths;
 mod prefix_texts;
@@ -51,9 +53,8 @@ mod whole_lines;
 pub mod words;
 
 pub use assignment::{Entry, read_assignment};
-pub use checks::put_path;
 pub use code::{Code, Refused};
-pub use decimals::write_decimal;
+pub use decimals::{put_decimal, put_marked, put_numbers, write_decimal};
 pub use lines::{
     fault_lines, flight_line, message_line, refused_line, stable_line, truncated_line,
     unstable_line,
@@ -61,9 +62,9 @@ pub use lines::{
 pub use network_so_far::read_network;
 pub use notices::notice_line;
 pub use path_lines::path_line;
-pub use prefix_texts::write_prefix;
+pub use prefix_texts::{put_prefixes, write_prefix};
 pub use sections::{Split, split_at_section};
 pub use tail::TextTail;
-pub use texts::{write_mark, write_text};
+pub use texts::{put_len, write_mark, write_text};
 pub use update_lines::parts_line;
 pub use whole_lines::{put_comments, put_network};

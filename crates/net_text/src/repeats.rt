@@ -11,38 +11,18 @@ ghost use Rattle.net_text.specs.Lines.{are_distinct};
 ghost use Rattle.net_text.specs.Repeating.{path_in, AreInOrder, is_rule, HasRoom};
 
 use crate::lexing::{next_word, same};
-use crate::paths::next_part;
-use crate::words::value_of;
+use crate::numbers::Numbers;
 use std::alloc::AllocError;
 use std::cmp::Ordering;
 
 // The paths of a line of at most so many octets are few enough to be compared in pairs.
 const MOST_PAIRED: usize = 4096;
 
-// How two paths stand to each other, by the first numbers that differ.
-fn compare(word: &[u8], other: &[u8]) -> Ordering
+/// How two paths stand to each other, by the first numbers that differ.
+pub(crate) fn compare(word: &[u8], other: &[u8]) -> Ordering
     ensures { result ≡ slice_cmp nat_cmp (path_of word.now) (path_of other.now) }
 {
-    let (mut left, mut others, mut more, mut more_others) = (word, other, true, true);
-    'parts: while more && more_others {
-        let (part, rest, on) = next_part(left);
-        let (other, rest_others, on_others) = next_part(others);
-        let order = value_of(part).cmp(&value_of(other));
-        if order != Ordering::Equal {
-            return order;
-        }
-        left = rest;
-        others = rest_others;
-        more = on;
-        more_others = on_others;
-    }
-    if more {
-        return Ordering::Greater;
-    }
-    if more_others {
-        return Ordering::Less;
-    }
-    Ordering::Equal
+    Numbers::of(word).cmp(Numbers::of(other))
 }
 
 // How many words a line has.
@@ -58,7 +38,7 @@ fn count_words(line: &[u8]) -> usize
     count
 }
 
-// Whether a line is one of a rule.
+// Whether a line is a `rank` line.
 fn is_rule(line: &[u8]) -> bool
     ensures { result ≡ is_rule (words_of line.now) }
 {

@@ -8,7 +8,7 @@ ghost use Rattle.net_text.specs.Lines.{setting_of, in_range, set_to, was_named, 
 
 use crate::code::Code;
 use crate::lexing::{next_line, next_word, same};
-use crate::words::{is_number, value_of};
+use crate::words::number_of;
 use bgp_values::{Width, is_hold_time};
 use ranked_policy::{GREATEST_CUT, GREATEST_PIPE, Settings};
 
@@ -91,10 +91,9 @@ fn in_range(setting: Setting, number: u64) -> bool
 pub(crate) fn judge_setting(setting: Setting, word: &[u8]) -> Result<u64, Code>
     ensures { result ≡ number_word (in_range setting) word.now }
 {
-    if !is_number(word) {
+    let Some(number) = number_of(word) else {
         return Err(Code::Unreadable);
-    }
-    let number = value_of(word);
+    };
     if !in_range(setting, number) {
         return Err(Code::OutOfLimit);
     }

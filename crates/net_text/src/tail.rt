@@ -5,7 +5,7 @@ ghost use Rattle.std.specs.List.{join_with_byte};
 ghost use Rattle.hex.specs.Hex.{encode_lower};
 ghost use Rattle.net_text.specs.Printing.{hex_or_dash, address_text, numbers_text, prefixes_text};
 
-use crate::decimals::{put_decimal, put_joined, put_path};
+use crate::decimals::{put_decimal, put_joined, put_numbers};
 use crate::prefix_texts::put_prefixes;
 use crate::texts::{put_address, put_hex, put_hex_or_dash, put_len, put_octet};
 use bgp_codec::Asn;
@@ -95,7 +95,7 @@ impl TextTail {
         ensures err { OnErr result (self.new.text ≡ self.old.text) }
         ensures front { self.new.front ≡ self.old.front }
     {
-        put_path(&mut self.octets, numbers)
+        put_numbers(&mut self.octets, numbers)
     }
 
     /// Writes a count in decimal digits, or nothing if memory is refused.

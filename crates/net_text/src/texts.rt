@@ -1,6 +1,6 @@
 //! Numbers and octets as text, written behind what a buffer has.
 
-ghost use Rattle.std.specs.Prelude.{◌≡◌, ◌+◌, ◌*◌, ◌<◌, ◌≤◌, ◌∷◌, [], ◌++◌, length, take, drop, decimal, slice_index, OnOk, OnErr};
+ghost use Rattle.std.specs.Prelude.{◌≡◌, ◌+◌, ◌*◌, ◌<◌, ◌≤◌, ◌∷◌, [], ◌++◌, length, take, drop, decimal, codes, OnOk, OnErr};
 ghost use Rattle.hex.specs.Hex.{encode_lower};
 ghost use Rattle.net_text.specs.Printing.{hex_or_dash, address_text};
 
@@ -15,31 +15,33 @@ const OCTET_ROOM: usize = 4;
 // the place behind the last.
 const ADDRESS_ROOM: usize = 16;
 
-// The rows of the octets, of four places each: the decimal digits, blanks behind them, and in the
-// last place how many digits there are.
+// The rows of the octets, of four places each: the decimal digits, a dot, and blanks behind it.
 const OCTET_ROWS: &[u8; 1024] = b"\
-    0  \x011  \x012  \x013  \x014  \x015  \x016  \x017  \x018  \x019  \x0110 \x0211 \x02\
-    12 \x0213 \x0214 \x0215 \x0216 \x0217 \x0218 \x0219 \x0220 \x0221 \x0222 \x0223 \x02\
-    24 \x0225 \x0226 \x0227 \x0228 \x0229 \x0230 \x0231 \x0232 \x0233 \x0234 \x0235 \x02\
-    36 \x0237 \x0238 \x0239 \x0240 \x0241 \x0242 \x0243 \x0244 \x0245 \x0246 \x0247 \x02\
-    48 \x0249 \x0250 \x0251 \x0252 \x0253 \x0254 \x0255 \x0256 \x0257 \x0258 \x0259 \x02\
-    60 \x0261 \x0262 \x0263 \x0264 \x0265 \x0266 \x0267 \x0268 \x0269 \x0270 \x0271 \x02\
-    72 \x0273 \x0274 \x0275 \x0276 \x0277 \x0278 \x0279 \x0280 \x0281 \x0282 \x0283 \x02\
-    84 \x0285 \x0286 \x0287 \x0288 \x0289 \x0290 \x0291 \x0292 \x0293 \x0294 \x0295 \x02\
-    96 \x0297 \x0298 \x0299 \x02100\x03101\x03102\x03103\x03104\x03105\x03106\x03107\x03\
-    108\x03109\x03110\x03111\x03112\x03113\x03114\x03115\x03116\x03117\x03118\x03119\x03\
-    120\x03121\x03122\x03123\x03124\x03125\x03126\x03127\x03128\x03129\x03130\x03131\x03\
-    132\x03133\x03134\x03135\x03136\x03137\x03138\x03139\x03140\x03141\x03142\x03143\x03\
-    144\x03145\x03146\x03147\x03148\x03149\x03150\x03151\x03152\x03153\x03154\x03155\x03\
-    156\x03157\x03158\x03159\x03160\x03161\x03162\x03163\x03164\x03165\x03166\x03167\x03\
-    168\x03169\x03170\x03171\x03172\x03173\x03174\x03175\x03176\x03177\x03178\x03179\x03\
-    180\x03181\x03182\x03183\x03184\x03185\x03186\x03187\x03188\x03189\x03190\x03191\x03\
-    192\x03193\x03194\x03195\x03196\x03197\x03198\x03199\x03200\x03201\x03202\x03203\x03\
-    204\x03205\x03206\x03207\x03208\x03209\x03210\x03211\x03212\x03213\x03214\x03215\x03\
-    216\x03217\x03218\x03219\x03220\x03221\x03222\x03223\x03224\x03225\x03226\x03227\x03\
-    228\x03229\x03230\x03231\x03232\x03233\x03234\x03235\x03236\x03237\x03238\x03239\x03\
-    240\x03241\x03242\x03243\x03244\x03245\x03246\x03247\x03248\x03249\x03250\x03251\x03\
-    252\x03253\x03254\x03255\x03";
+    0.  1.  2.  3.  4.  5.  6.  7.  8.  9.  10. 11. 12. 13. 14. 15. 16. 17. 18. 19. 20. 21. 22. 23. \
+    24. 25. 26. 27. 28. 29. 30. 31. 32. 33. 34. 35. 36. 37. 38. 39. 40. 41. 42. 43. 44. 45. 46. 47. \
+    48. 49. 50. 51. 52. 53. 54. 55. 56. 57. 58. 59. 60. 61. 62. 63. 64. 65. 66. 67. 68. 69. 70. 71. \
+    72. 73. 74. 75. 76. 77. 78. 79. 80. 81. 82. 83. 84. 85. 86. 87. 88. 89. 90. 91. 92. 93. 94. 95. \
+    96. 97. 98. 99. 100.101.102.103.104.105.106.107.108.109.110.111.112.113.114.115.116.117.118.119.\
+    120.121.122.123.124.125.126.127.128.129.130.131.132.133.134.135.136.137.138.139.140.141.142.143.\
+    144.145.146.147.148.149.150.151.152.153.154.155.156.157.158.159.160.161.162.163.164.165.166.167.\
+    168.169.170.171.172.173.174.175.176.177.178.179.180.181.182.183.184.185.186.187.188.189.190.191.\
+    192.193.194.195.196.197.198.199.200.201.202.203.204.205.206.207.208.209.210.211.212.213.214.215.\
+    216.217.218.219.220.221.222.223.224.225.226.227.228.229.230.231.232.233.234.235.236.237.238.239.\
+    240.241.242.243.244.245.246.247.248.249.250.251.252.253.254.255.";
+
+// How many places of its row the digits of each octet and the dot have.
+const OCTET_SPANS: &[u8; 256] = b"\
+    \x02\x02\x02\x02\x02\x02\x02\x02\x02\x02\x03\x03\x03\x03\x03\x03\x03\x03\x03\x03\x03\x03\x03\x03\
+    \x03\x03\x03\x03\x03\x03\x03\x03\x03\x03\x03\x03\x03\x03\x03\x03\x03\x03\x03\x03\x03\x03\x03\x03\
+    \x03\x03\x03\x03\x03\x03\x03\x03\x03\x03\x03\x03\x03\x03\x03\x03\x03\x03\x03\x03\x03\x03\x03\x03\
+    \x03\x03\x03\x03\x03\x03\x03\x03\x03\x03\x03\x03\x03\x03\x03\x03\x03\x03\x03\x03\x03\x03\x03\x03\
+    \x03\x03\x03\x03\x04\x04\x04\x04\x04\x04\x04\x04\x04\x04\x04\x04\x04\x04\x04\x04\x04\x04\x04\x04\
+    \x04\x04\x04\x04\x04\x04\x04\x04\x04\x04\x04\x04\x04\x04\x04\x04\x04\x04\x04\x04\x04\x04\x04\x04\
+    \x04\x04\x04\x04\x04\x04\x04\x04\x04\x04\x04\x04\x04\x04\x04\x04\x04\x04\x04\x04\x04\x04\x04\x04\
+    \x04\x04\x04\x04\x04\x04\x04\x04\x04\x04\x04\x04\x04\x04\x04\x04\x04\x04\x04\x04\x04\x04\x04\x04\
+    \x04\x04\x04\x04\x04\x04\x04\x04\x04\x04\x04\x04\x04\x04\x04\x04\x04\x04\x04\x04\x04\x04\x04\x04\
+    \x04\x04\x04\x04\x04\x04\x04\x04\x04\x04\x04\x04\x04\x04\x04\x04\x04\x04\x04\x04\x04\x04\x04\x04\
+    \x04\x04\x04\x04\x04\x04\x04\x04\x04\x04\x04\x04\x04\x04\x04\x04";
 
 /// Writes an octet at a place, and answers the place behind it.
 pub fn write_mark(text: &mut [u8], at: usize, mark: u8) -> usize
@@ -71,28 +73,40 @@ fn four_at(octets: &[u8], at: usize) -> [u8; 4]
     [octets[at], octets[at + 1], octets[at + 2], octets[at + 3]]
 }
 
-/// The row of an octet: its digits in front, blanks behind them, and in the last place how many digits there are.
+/// The row of an octet: its digits in front, a dot behind them, and blanks.
 pub fn octet_row(octet: u8) -> [u8; 4]
-    ensures digits { take (length (decimal octet)) result ≡ decimal octet }
-    ensures count { slice_index result 3 ≡ length (decimal octet) }
-    ensures few { length (decimal octet) ≤ 3 }
+    ensures { take (length (decimal octet) + 1) result ≡ decimal octet ++ codes "." }
 {
     four_at(OCTET_ROWS, 4 * octet as usize)
 }
 
-/// Writes an octet as a number at a place, and answers the place behind it. Four octets may change:
-/// a row is written whole.
+// How many places of its row the digits of an octet and the dot have.
+fn octet_span(octet: u8) -> usize
+    ensures span { result ≡ length (decimal octet) + 1 }
+    ensures few { result ≤ 4 }
+{
+    OCTET_SPANS[octet as usize] as usize
+}
+
+// Writes an octet as a number at a place, a dot behind it, and answers the place behind the dot. Four octets may
+// change: a row is written whole.
+fn write_dotted(text: &mut [u8], at: usize, octet: u8) -> usize
+    requires { at + 4 ≤ length text.old }
+    ensures end { result ≡ at + (length (decimal octet) + 1) }
+    ensures few { result ≤ at + 4 }
+    ensures text { take result text.new ≡ take at text.old ++ (decimal octet ++ codes ".") }
+{
+    write_text(text, at, &octet_row(octet));
+    at + octet_span(octet)
+}
+
+/// Writes an octet as a number at a place, and answers the place behind it. Four octets may change.
 pub fn write_octet(text: &mut [u8], at: usize, octet: u8) -> usize
     requires { at + 4 ≤ length text.old }
     ensures end { result ≤ at + 3 }
     ensures text { take result text.new ≡ take at text.old ++ decimal octet }
 {
-    let [first, second, third, count] = octet_row(octet);
-    text[at] = first;
-    text[at + 1] = second;
-    text[at + 2] = third;
-    text[at + 3] = count;
-    at + count as usize
+    write_dotted(text, at, octet) - 1
 }
 
 /// Writes an address at a place, as its four octets with dots between them, and answers the place
@@ -103,12 +117,9 @@ pub fn write_address(text: &mut [u8], at: usize, address: u32) -> usize
     ensures end { result ≤ at + 15 }
     ensures text { take result text.new ≡ take at text.old ++ address_text address }
 {
-    let at = write_octet(text, at, (address / 0x0100_0000) as u8);
-    let at = write_mark(text, at, b'.');
-    let at = write_octet(text, at, (address / 0x0001_0000 % 256) as u8);
-    let at = write_mark(text, at, b'.');
-    let at = write_octet(text, at, (address / 0x0100 % 256) as u8);
-    let at = write_mark(text, at, b'.');
+    let at = write_dotted(text, at, (address / 0x0100_0000) as u8);
+    let at = write_dotted(text, at, (address / 0x0001_0000 % 256) as u8);
+    let at = write_dotted(text, at, (address / 0x0100 % 256) as u8);
     write_octet(text, at, (address % 256) as u8)
 }
 

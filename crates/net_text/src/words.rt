@@ -26,42 +26,6 @@ fn are_digits(word: &[u8]) -> bool
     word.iter().all(|x| is_digit(*x))
 }
 
-/// Whether the word is digits, however many, and not empty.
-pub fn is_number(word: &[u8]) -> bool
-    ensures { result ≡ is_number word.now }
-{
-    !word.is_empty() && are_digits(word)
-}
-
-// The number that at most `MOST_SHORT` octets spell, whatever octets they are. 64 bits hold it.
-fn short_value(word: &[u8]) -> u64
-    requires { length word.now ≤ 17 }
-    ensures { result ≡ value_of word.now }
-{
-    let mut value = 0u64;
-    for x in word {
-        value = value * 10 + u64::from(x.saturating_sub(b'0'));
-    }
-    value
-}
-
-/// The number that the digits spell. A number that 64 bits do not hold is answered as the greatest
-/// that they hold, which is above each limit too.
-pub fn value_of(word: &[u8]) -> u64
-    ensures { result ≡ value_of word.now }
-{
-    if word.len() <= MOST_SHORT {
-        return short_value(word);
-    }
-    let mut value = 0u64;
-    for x in word {
-        value = value
-            .saturating_mul(10)
-            .saturating_add(u64::from(x.saturating_sub(b'0')));
-    }
-    value
-}
-
 // The number that a short word spells. Its digits are tested and summed at once.
 fn short_number(word: &[u8]) -> Option<u64>
     requires { length word.now ≤ 17 }
@@ -78,8 +42,22 @@ fn short_number(word: &[u8]) -> Option<u64>
     Some(value)
 }
 
-/// The number that the digits spell, as [`is_number`] and [`value_of`] say; `None` if the word is
-/// no number.
+// The number that octets spell, however many. One that 64 bits do not hold is answered as the greatest that they hold,
+// which is above each limit too.
+fn long_value(word: &[u8]) -> u64
+    ensures { result ≡ value_of word.now }
+{
+    let mut value = 0u64;
+    for x in word {
+        value = value
+            .saturating_mul(10)
+            .saturating_add(u64::from(x.saturating_sub(b'0')));
+    }
+    value
+}
+
+/// The number that the digits spell, however many; `None` if the word is no number. A number that 64 bits do not hold is
+/// answered as the greatest that they hold, which is above each limit too.
 pub fn number_of(word: &[u8]) -> Option<u64>
     ensures none { IfNone result (is_number word.now ≡ false) }
     ensures some { IfSome result (λ n. (is_number word.now ≡ true) × (n ≡ value_of word.now)) }
@@ -91,9 +69,26 @@ pub fn number_of(word: &[u8]) -> Option<u64>
         return short_number(word);
     }
     if are_digits(word) {
-        Some(value_of(word))
+        Some(long_value(word))
     } else {
         None
+    }
+}
+
+// Whether the word is digits, however many, and not empty.
+pub(crate) fn is_number(word: &[u8]) -> bool
+    ensures { result ≡ is_number word.now }
+{
+    number_of(word).is_some()
+}
+
+// The number that a word spells; that it is a number was judged before.
+pub(crate) fn value_of(word: &[u8]) -> u64
+    ensures { result ≡ value_of word.now }
+{
+    match number_of(word) {
+        Some(number) => number,
+        None => long_value(word),
     }
 }
 
@@ -141,10 +136,15 @@ pub fn router_word(width: Width, routers: &[NetRouter], word: &[u8]) -> Result<A
     Ok(asn)
 }
 
-fn is_octet(part: &[u8]) -> bool
-    ensures { result ≡ is_octet part.now }
+// The octet that a word spells.
+fn octet_of(part: &[u8]) -> Option<u32>
+    ensures none { IfNone result (is_octet part.now ≡ false) }
+    ensures some { IfSome result (λ n. (is_octet part.now ≡ true) × (n ≡ value_of part.now)) }
 {
-    is_number(part) && value_of(part) <= 255
+    match number_of(part) {
+        Some(number) if number <= 255 => Some(number as u32),
+        _ => None,
+    }
 }
 
 // The address that four octets with dots between them spell.
@@ -157,11 +157,8 @@ pub(crate) fn address_of(word: &[u8]) -> Option<u32>
     if let Some(_) = cut(d, b'.') {
         return None;
     }
-    if !(is_octet(a) && is_octet(b) && is_octet(c) && is_octet(d)) {
-        return None;
-    }
-    let (a, b) = (value_of(a) as u32, value_of(b) as u32);
-    let (c, d) = (value_of(c) as u32, value_of(d) as u32);
+    let (a, b) = (octet_of(a)?, octet_of(b)?);
+    let (c, d) = (octet_of(c)?, octet_of(d)?);
     Some(((a * 256 + b) * 256 + c) * 256 + d)
 }
 
@@ -187,10 +184,10 @@ fn prefix_of(word: &[u8]) -> Option<Prefix>
         return None;
     }
     let address = address_of(address)?;
-    if !(is_number(len) && value_of(len) <= 32) {
-        return None;
+    match number_of(len) {
+        Some(len) if len <= 32 => Prefix::new(address, len as u8),
+        _ => None,
     }
-    Prefix::new(address, value_of(len) as u8)
 }
 
 pub(crate) fn prefix_word(word: &[u8]) -> Result<Prefix, Code>

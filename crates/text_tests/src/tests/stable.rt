@@ -5,17 +5,11 @@ use std::process::Abort;
 use std::test::Fail;
 use text_engines::{Watched, check_stream};
 
-// A router, and the paths that it may be given.
-struct Choices {
-    router: &'static str,
-    paths: [&'static str; 3],
-}
-
-// A network, whose router 1 has its own path, the choices of the others, and how many of the
-// assignments are stable.
+// A network, whose router 1 has its own path, the other routers, each with the paths that it may be given, and how many
+// of the assignments are stable.
 struct Counted {
     network: &'static str,
-    choices: &'static [Choices],
+    choices: &'static [(&'static str, [&'static str; 3])],
     assignments: usize,
     stable: usize,
 }
@@ -26,18 +20,9 @@ static COUNTED: [Counted; 5] = [
         network: "router 1 10.0.0.1\nrouter 2 10.0.0.2\nrouter 3 10.0.0.3\nrouter 4 10.0.0.4\n\
             link 1 2\nlink 2 4\nlink 1 3\nlink 3 4\norigin 1 10.1.0.0/16\nassignment\n",
         choices: &[
-            Choices {
-                router: "2",
-                paths: ["none", "2-1", "2-4-3-1"],
-            },
-            Choices {
-                router: "3",
-                paths: ["none", "3-1", "3-4-2-1"],
-            },
-            Choices {
-                router: "4",
-                paths: ["none", "4-2-1", "4-3-1"],
-            },
+            ("2", ["none", "2-1", "2-4-3-1"]),
+            ("3", ["none", "3-1", "3-4-2-1"]),
+            ("4", ["none", "4-2-1", "4-3-1"]),
         ],
         assignments: 27,
         stable: 1,
@@ -49,22 +34,10 @@ static COUNTED: [Counted; 5] = [
             origin 1 10.1.0.0/16\nrank 2 10.1.0.0/16 2-4-1 2-1\nrank 3 10.1.0.0/16 3-2-1 3-1\n\
             rank 4 10.1.0.0/16 4-1\nrank 5 10.1.0.0/16 5-4-1 5-3-1\nassignment\n",
         choices: &[
-            Choices {
-                router: "2",
-                paths: ["none", "2-4-1", "2-1"],
-            },
-            Choices {
-                router: "3",
-                paths: ["none", "3-2-1", "3-1"],
-            },
-            Choices {
-                router: "4",
-                paths: ["none", "4-1", "4-2-1"],
-            },
-            Choices {
-                router: "5",
-                paths: ["none", "5-4-1", "5-3-1"],
-            },
+            ("2", ["none", "2-4-1", "2-1"]),
+            ("3", ["none", "3-2-1", "3-1"]),
+            ("4", ["none", "4-1", "4-2-1"]),
+            ("5", ["none", "5-4-1", "5-3-1"]),
         ],
         assignments: 81,
         stable: 1,
@@ -75,14 +48,8 @@ static COUNTED: [Counted; 5] = [
             link 1 2\nlink 1 3\nlink 2 3\norigin 1 10.1.0.0/16\n\
             rank 2 10.1.0.0/16 2-3-1 2-1\nrank 3 10.1.0.0/16 3-2-1 3-1\nassignment\n",
         choices: &[
-            Choices {
-                router: "2",
-                paths: ["none", "2-3-1", "2-1"],
-            },
-            Choices {
-                router: "3",
-                paths: ["none", "3-2-1", "3-1"],
-            },
+            ("2", ["none", "2-3-1", "2-1"]),
+            ("3", ["none", "3-2-1", "3-1"]),
         ],
         assignments: 9,
         stable: 2,
@@ -94,18 +61,9 @@ static COUNTED: [Counted; 5] = [
             rank 2 10.1.0.0/16 2-3-1 2-1\nrank 3 10.1.0.0/16 3-4-1 3-1\n\
             rank 4 10.1.0.0/16 4-2-1 4-1\nassignment\n",
         choices: &[
-            Choices {
-                router: "2",
-                paths: ["none", "2-3-1", "2-1"],
-            },
-            Choices {
-                router: "3",
-                paths: ["none", "3-4-1", "3-1"],
-            },
-            Choices {
-                router: "4",
-                paths: ["none", "4-2-1", "4-1"],
-            },
+            ("2", ["none", "2-3-1", "2-1"]),
+            ("3", ["none", "3-4-1", "3-1"]),
+            ("4", ["none", "4-2-1", "4-1"]),
         ],
         assignments: 27,
         stable: 0,
@@ -117,18 +75,9 @@ static COUNTED: [Counted; 5] = [
             rank 2 10.1.0.0/16 2-3-4-1 2-1\nrank 3 10.1.0.0/16 3-2-1 3-4-1\n\
             rank 4 10.1.0.0/16 4-1 4-3-2-1\nassignment\n",
         choices: &[
-            Choices {
-                router: "2",
-                paths: ["none", "2-3-4-1", "2-1"],
-            },
-            Choices {
-                router: "3",
-                paths: ["none", "3-2-1", "3-4-1"],
-            },
-            Choices {
-                router: "4",
-                paths: ["none", "4-1", "4-3-2-1"],
-            },
+            ("2", ["none", "2-3-4-1", "2-1"]),
+            ("3", ["none", "3-2-1", "3-4-1"]),
+            ("4", ["none", "4-1", "4-3-2-1"]),
         ],
         assignments: 27,
         stable: 2,
@@ -141,7 +90,7 @@ fn assignment(alloc: Global, counted: &Counted, number: usize) -> Result<String,
     let network = counted.network;
     let mut input = format!(in alloc; "{network}path 1 10.1.0.0/16 1\n")?;
     let mut digits = number;
-    for Choices { router, paths } in counted.choices {
+    for (router, paths) in counted.choices {
         let path = paths[digits % 3];
         let line = format!(in alloc; "path {router} 10.1.0.0/16 {path}\n")?;
         input.push_str(line.as_str())?;

@@ -1,32 +1,13 @@
-use Rattle.std.proofs.Common.{◌≡◌, ◌&&◌, false, sym, ◌∙◌}
-use Rattle.std.proofs.lemmas.Bool.{and_left, and_right}
-use Rattle.net_text.proofs.RepeatLemmas.{order_end}
+use Rattle.std.proofs.Common.{◌≡◌, ap, ◌∙◌, refl}
+use Rattle.std.specs.Ordering.{nat_cmp}
+use Rattle.std.proofs.lemmas.Iterator.Consumers.{YieldsList-from_first}
+use Rattle.std.proofs.lemmas.Iterator.Search.{cmp_from_yields_List}
+use Rattle.net_text.specs.Words.{path_of}
+use Rattle.net_text.specs.Taking.{numbers_left}
 use Rattle.net_text.proofs.repeats.compare.Goals as goal
-use Rattle.net_text.proofs.repeats.compare.Goals.{then-parts-test+else-more_others, else-parts-test}
-
-pub returns-then-more : goal.returns-then-more
-returns-then-more c =
-    let over : (c.parts.more && c.parts.more_others) ≡ false = elim c.parts-test.branch [
-      | then-parts-test+else-more_others w ↦ and_right c.parts.more c.parts.more_others w.if-more_others.false
-      | else-parts-test w ↦ and_left c.parts.more c.parts.more_others w.parts-test.false
-    ] in
-    let ends = c.parts.invariant ∙ order_end c.parts.more c.parts.more_others c.parts.left.now c.parts.others.now over in
-    sym (rw c.if-more.true at ends)
-
-pub returns-then-more_others-2 : goal.returns-then-more_others-2
-returns-then-more_others-2 c =
-    let over : (c.parts.more && c.parts.more_others) ≡ false = elim c.parts-test.branch [
-      | then-parts-test+else-more_others w ↦ and_right c.parts.more c.parts.more_others w.if-more_others.false
-      | else-parts-test w ↦ and_left c.parts.more c.parts.more_others w.parts-test.false
-    ] in
-    let ends = c.parts.invariant ∙ order_end c.parts.more c.parts.more_others c.parts.left.now c.parts.others.now over in
-    sym (rw (c.if-more.false, c.if-more_others-2.true) at ends)
 
 pub returns : goal.returns
 returns c =
-    let over : (c.parts.more && c.parts.more_others) ≡ false = elim c.parts-test.branch [
-      | then-parts-test+else-more_others w ↦ and_right c.parts.more c.parts.more_others w.if-more_others.false
-      | else-parts-test w ↦ and_left c.parts.more c.parts.more_others w.parts-test.false
-    ] in
-    let ends = c.parts.invariant ∙ order_end c.parts.more c.parts.more_others c.parts.left.now c.parts.others.now over in
-    sym (rw (c.if-more.false, c.if-more_others-2.false) at ends)
+    cmp_from_yields_List {xs = path_of c.args.word.now} {ys = path_of c.args.other.now} (λ x y. y ≡ x) c.of-2.result nat_cmp c.cmp.result c.cmp.ensures.ran
+    (YieldsList-from_first (λ n. n) numbers_left _ c.of.ensures)
+    (λ it is. YieldsList-from_first (λ n. n) numbers_left _ (ap numbers_left is ∙ c.of-2.ensures)) (λ x y. refl)

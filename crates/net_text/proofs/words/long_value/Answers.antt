@@ -1,6 +1,6 @@
 use Rattle.std.proofs.Common.{refl, sym, ◌∙◌, arith}
 use Rattle.net_text.proofs.WordLemmas.{value_on, value_end}
-use Rattle.net_text.proofs.words.value_of.Goals as goal
+use Rattle.net_text.proofs.words.long_value.Goals as goal
 
 pub loop-x-preserved : goal.loop-x-preserved
 loop-x-preserved c = record {

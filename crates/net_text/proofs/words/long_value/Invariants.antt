@@ -1,7 +1,7 @@
 -- the digits passed and those that are left make the whole, as far as 64 bits hold it
 use Rattle.std.proofs.Common.{◌≡◌, ◌-◌, ◌^◌, ◌≤◌, min, drop}
 use Rattle.net_text.specs.Words.{value_of, value_behind}
-use Rattle.net_text.proofs.words.value_of.Given as goal
+use Rattle.net_text.proofs.words.long_value.Given as goal
 
 abbrev pub invariant-loop-x : goal.invariant-loop-x
 invariant-loop-x l =
