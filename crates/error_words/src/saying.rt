@@ -8,9 +8,9 @@ ghost use Rattle.error_words.specs.Saying.{shown_octet, shown, place_text, found
 use crate::hints::{Hint, has, hint_of_hex, hint_of_line, hint_text};
 use crate::meanings::meaning_at;
 use crate::refusals::{line_at, refusal_of};
-use crate::usage::write_words;
-use net_text::TextTail;
+use crate::usage::put_words;
 use net_text::lexing::same;
+use net_text::put_len;
 use std::alloc::{AllocError, Global};
 use text_engines::status::{REFUSED, STOPPED, USAGE};
 
@@ -45,152 +45,140 @@ fn shown_octet(x: u8) -> u8
     }
 }
 
-// Writes octets as they are shown.
-fn write_octets(out: &mut TextTail, octets: &[u8]) -> Result<(), AllocError>
-    ensures text { OnOk result (out.new.text ≡ out.old.text ++ map shown_octet octets.now) }
-    ensures front { out.new.front ≡ out.old.front }
+// Appends octets as they are shown.
+fn put_octets(out: &mut Vec<u8>, octets: &[u8]) -> Result<(), AllocError>
+    ensures { OnOk result (out.new.items ≡ out.old.items ++ map shown_octet octets.now) }
 {
     for x in octets {
-        out.put_text(&[shown_octet(*x)])?;
+        out.extend_from_slice(&[shown_octet(*x)])?;
     }
     Ok(())
 }
 
-/// Writes a line as it is shown.
-pub(crate) fn write_shown(out: &mut TextTail, line: &[u8]) -> Result<(), AllocError>
-    ensures text { OnOk result (out.new.text ≡ out.old.text ++ shown line.now) }
-    ensures front { out.new.front ≡ out.old.front }
+/// Appends a line as it is shown.
+pub(crate) fn put_shown(out: &mut Vec<u8>, line: &[u8]) -> Result<(), AllocError>
+    ensures { OnOk result (out.new.items ≡ out.old.items ++ shown line.now) }
 {
     if line.len() <= MOST_SHOWN {
-        return write_octets(out, line);
+        return put_octets(out, line);
     }
     let (front, _) = line.split_at(MOST_SHOWN);
-    write_octets(out, front)?;
-    out.put_text(b" ..")
+    put_octets(out, front)?;
+    out.extend_from_slice(b" ..")
 }
 
-// Writes of which line a refusal is.
-fn write_place(out: &mut TextTail, at: u64) -> Result<(), AllocError>
-    ensures text { OnOk result (out.new.text ≡ out.old.text ++ place_text at) }
-    ensures front { out.new.front ≡ out.old.front }
+// Appends of which line a refusal is.
+fn put_place(out: &mut Vec<u8>, at: u64) -> Result<(), AllocError>
+    ensures { OnOk result (out.new.items ≡ out.old.items ++ place_text at) }
 {
     if at == 0 {
         return Ok(());
     }
-    out.put_text(b"line ")?;
-    out.put_len(at as usize)?;
-    out.put_text(b": ")
+    out.extend_from_slice(b"line ")?;
+    put_len(out, at as usize)?;
+    out.extend_from_slice(b": ")
 }
 
-// Writes the line that is refused, if it is known.
-fn write_found(out: &mut TextTail, found: Option<&[u8]>) -> Result<(), AllocError>
-    ensures text { OnOk result (out.new.text ≡ out.old.text ++ found_text (option_copied found.entry)) }
-    ensures front { out.new.front ≡ out.old.front }
+// Appends the line that is refused, if it is known.
+fn put_found(out: &mut Vec<u8>, found: Option<&[u8]>) -> Result<(), AllocError>
+    ensures { OnOk result (out.new.items ≡ out.old.items ++ found_text (option_copied found.entry)) }
 {
     let Some(line) = found else {
         return Ok(());
     };
-    out.put_text(b": ")?;
-    write_shown(out, line)
+    out.extend_from_slice(b": ")?;
+    put_shown(out, line)
 }
 
 #[tactic(auto, unfolding(crate::specs::Saying::refusal_text))]
-fn write_refusal(
-    out: &mut TextTail,
+fn put_refusal(
+    out: &mut Vec<u8>,
     at: u64,
     code: &[u8],
     found: Option<&[u8]>,
 ) -> Result<(), AllocError>
-    ensures text { OnOk result (out.new.text ≡ out.old.text ++ refusal_text at code.now (option_copied found.entry)) }
-    ensures front { out.new.front ≡ out.old.front }
+    ensures { OnOk result (out.new.items ≡ out.old.items ++ refusal_text at code.now (option_copied found.entry)) }
 {
-    out.put_text(b"bgpnet: ")?;
-    write_place(out, at)?;
-    out.put_text(code)?;
-    out.put_text(b": ")?;
-    out.put_text(meaning_at(at, code))?;
-    write_found(out, found)?;
-    out.put_text(b"\n")
+    out.extend_from_slice(b"bgpnet: ")?;
+    put_place(out, at)?;
+    out.extend_from_slice(code)?;
+    out.extend_from_slice(b": ")?;
+    out.extend_from_slice(meaning_at(at, code))?;
+    put_found(out, found)?;
+    out.extend_from_slice(b"\n")
 }
 
 #[tactic(auto, unfolding(crate::specs::Saying::remark_text))]
-fn write_remark(out: &mut TextTail, text: &[u8]) -> Result<(), AllocError>
-    ensures text { OnOk result (out.new.text ≡ out.old.text ++ remark_text text.now) }
-    ensures front { out.new.front ≡ out.old.front }
+fn put_remark(out: &mut Vec<u8>, text: &[u8]) -> Result<(), AllocError>
+    ensures { OnOk result (out.new.items ≡ out.old.items ++ remark_text text.now) }
 {
-    out.put_text(b"bgpnet: ")?;
-    out.put_text(text)?;
-    out.put_text(b"\n")
+    out.extend_from_slice(b"bgpnet: ")?;
+    out.extend_from_slice(text)?;
+    out.extend_from_slice(b"\n")
 }
 
-fn write_hint(out: &mut TextTail, hint: Option<Hint>) -> Result<(), AllocError>
-    ensures text { OnOk result (out.new.text ≡ out.old.text ++ hint_said hint) }
-    ensures front { out.new.front ≡ out.old.front }
+fn put_hint(out: &mut Vec<u8>, hint: Option<Hint>) -> Result<(), AllocError>
+    ensures { OnOk result (out.new.items ≡ out.old.items ++ hint_said hint) }
 {
     match hint {
-        Some(hint) => write_remark(out, hint_text(hint)),
+        Some(hint) => put_remark(out, hint_text(hint)),
         None => Ok(()),
     }
 }
 
-// Writes the words on a line that is refused.
-fn write_named(out: &mut TextTail, input: &[u8], at: u64, code: &[u8]) -> Result<(), AllocError>
-    ensures text { OnOk result
-        (out.new.text ≡ out.old.text ++ named_said input.now (Some (record { at = at; code = code.now }))) }
-    ensures front { out.new.front ≡ out.old.front }
+// Appends the words on a line that is refused.
+fn put_named(out: &mut Vec<u8>, input: &[u8], at: u64, code: &[u8]) -> Result<(), AllocError>
+    ensures { OnOk result
+        (out.new.items ≡ out.old.items ++ named_said input.now (Some (record { at = at; code = code.now }))) }
 {
     let found = line_at(input, at);
-    write_refusal(out, at, code, found)?;
-    write_hint(out, hint_of_line(input, found.unwrap_or(b"")))
+    put_refusal(out, at, code, found)?;
+    put_hint(out, hint_of_line(input, found.unwrap_or(b"")))
 }
 
-// Writes the words on an input that is no hex.
-fn write_no_hex(out: &mut TextTail, input: &[u8]) -> Result<(), AllocError>
-    ensures text { OnOk result
-        (out.new.text
-        ≡ out.old.text ++ (remark_text no_hex ++ hint_said (hint_of_hex input.now (first_line input.now)))) }
-    ensures front { out.new.front ≡ out.old.front }
+// Appends the words on an input that is no hex.
+fn put_no_hex(out: &mut Vec<u8>, input: &[u8]) -> Result<(), AllocError>
+    ensures { OnOk result
+        (out.new.items
+        ≡ out.old.items ++ (remark_text no_hex ++ hint_said (hint_of_hex input.now (first_line input.now)))) }
 {
-    write_remark(
+    put_remark(
         out,
         b"the input has an octet that is no hex digit and no blank, or half an octet",
     )?;
     let first = line_at(input, 1);
-    write_hint(out, hint_of_hex(input, first.unwrap_or(b"")))
+    put_hint(out, hint_of_hex(input, first.unwrap_or(b"")))
 }
 
-fn write_refused(out: &mut TextTail, last: &[u8], input: &[u8]) -> Result<(), AllocError>
-    ensures text { OnOk result (out.new.text ≡ out.old.text ++ refused_said last.now input.now) }
-    ensures front { out.new.front ≡ out.old.front }
+fn put_refused(out: &mut Vec<u8>, last: &[u8], input: &[u8]) -> Result<(), AllocError>
+    ensures { OnOk result (out.new.items ≡ out.old.items ++ refused_said last.now input.now) }
 {
     if same(last, b"bad hex") {
-        return write_no_hex(out, input);
+        return put_no_hex(out, input);
     }
     match refusal_of(last) {
-        Some((at, code)) => write_named(out, input, at, code),
+        Some((at, code)) => put_named(out, input, at, code),
         None => Ok(()),
     }
 }
 
-fn write_stopped(out: &mut TextTail, read_failed: bool) -> Result<(), AllocError>
-    ensures text { OnOk result (out.new.text ≡ out.old.text ++ stopped_said read_failed) }
-    ensures front { out.new.front ≡ out.old.front }
+fn put_stopped(out: &mut Vec<u8>, read_failed: bool) -> Result<(), AllocError>
+    ensures { OnOk result (out.new.items ≡ out.old.items ++ stopped_said read_failed) }
 {
     if read_failed {
-        write_remark(out, b"the standard input can't be read")
+        put_remark(out, b"the standard input can't be read")
     } else {
-        write_remark(out, b"the standard output can't be written")
+        put_remark(out, b"the standard output can't be written")
     }
 }
 
-fn write_said(out: &mut TextTail, end: &End) -> Result<(), AllocError>
-    ensures text { OnOk result (out.new.text ≡ out.old.text ++ said end.now) }
-    ensures front { out.new.front ≡ out.old.front }
+fn put_said(out: &mut Vec<u8>, end: &End) -> Result<(), AllocError>
+    ensures { OnOk result (out.new.items ≡ out.old.items ++ said end.now) }
 {
     match end.status {
-        STOPPED => write_stopped(out, end.read_failed),
-        REFUSED => write_refused(out, end.last, end.input),
-        USAGE => write_words(out, end.word, end.name),
+        STOPPED => put_stopped(out, end.read_failed),
+        REFUSED => put_refused(out, end.last, end.input),
+        USAGE => put_words(out, end.word, end.name),
         _ => Ok(()),
     }
 }
@@ -201,7 +189,6 @@ pub fn said(alloc: Global, end: &End) -> Result<Vec<u8>, AllocError>
     ensures { IfOk result (λ text. text.items ≡ said end.now) }
 {
     let mut text = Vec::new(alloc);
-    let mut tail = TextTail::behind(&mut text);
-    write_said(&mut tail, end)?;
-    Ok(tail.finish(true))
+    put_said(&mut text, end)?;
+    Ok(text)
 }

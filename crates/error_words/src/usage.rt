@@ -5,8 +5,7 @@ ghost use Rattle.std.specs.Option.{option_copied};
 ghost use Rattle.error_words.specs.Saying.{bound_of, reads_alone, usage_of, is_file, file_text, used_said, words_said};
 
 use crate::hints::has;
-use crate::saying::write_shown;
-use net_text::TextTail;
+use crate::saying::put_shown;
 use net_text::lexing::same;
 use std::alloc::AllocError;
 use text_engines::INPUT_LIMIT;
@@ -68,25 +67,23 @@ fn is_file(name: &[u8]) -> bool
 }
 
 #[tactic(auto, unfolding(crate::specs::Saying::file_text))]
-fn write_file(out: &mut TextTail, word: &[u8], usage: &[u8], name: &[u8]) -> Result<(), AllocError>
-    ensures text { OnOk result (out.new.text ≡ out.old.text ++ file_text word.now usage.now name.now) }
-    ensures front { out.new.front ≡ out.old.front }
+fn put_file(out: &mut Vec<u8>, word: &[u8], usage: &[u8], name: &[u8]) -> Result<(), AllocError>
+    ensures { OnOk result (out.new.items ≡ out.old.items ++ file_text word.now usage.now name.now) }
 {
-    out.put_text(b"bgpnet: the input is the standard input: bgpnet ")?;
-    out.put_text(word)?;
-    out.put_text(usage)?;
-    write_shown(out, name)?;
-    out.put_text(b"\n")
+    out.extend_from_slice(b"bgpnet: the input is the standard input: bgpnet ")?;
+    out.extend_from_slice(word)?;
+    out.extend_from_slice(usage)?;
+    put_shown(out, name)?;
+    out.extend_from_slice(b"\n")
 }
 
-/// Writes the words on arguments that the program does not take, by the first and the last of them: how the input is
+/// Appends the words on arguments that the program does not take, by the first and the last of them: how the input is
 /// given, if the last is a name of a file.
-pub(crate) fn write_words(out: &mut TextTail, word: &[u8], name: &[u8]) -> Result<(), AllocError>
-    ensures text { OnOk result (out.new.text ≡ out.old.text ++ words_said word.now name.now) }
-    ensures front { out.new.front ≡ out.old.front }
+pub(crate) fn put_words(out: &mut Vec<u8>, word: &[u8], name: &[u8]) -> Result<(), AllocError>
+    ensures { OnOk result (out.new.items ≡ out.old.items ++ words_said word.now name.now) }
 {
     match usage_of(word) {
-        Some(usage) if is_file(name) => write_file(out, word, usage, name),
+        Some(usage) if is_file(name) => put_file(out, word, usage, name),
         Some(_) | None => Ok(()),
     }
 }

@@ -1,5 +1,5 @@
 -- Want of memory is no line's fault, and any other refusal is that of the first line with a fault.
-use Rattle.std.proofs.Common.{◌≡◌, ℕ, Bool, true, false, cond, List, [], ◌∷◌, Option, None, Some, Result, Ok, Err, ap, sym, not, ◌≢◌, suc, ◌++◌, refl, subst, arith}
+use Rattle.std.proofs.Common.{◌≡◌, ℕ, Bool, cond, List, [], ◌∷◌, Option, None, Some, Result, Ok, Err, sym, not, ◌≢◌, suc, ◌++◌, refl, subst, arith}
 use Rattle.prefix_lanes.specs.Bits.{PrefixView}
 use Rattle.ranked_policy.specs.Plans.{Plan}
 use Rattle.ranked_policy.specs.declared.network.NetRouter.{NetRouter}
@@ -10,6 +10,7 @@ use Rattle.net_text.specs.Lexing.{Text, is_skipped, is_ascii, words_of}
 use Rattle.net_text.specs.Words.{◌>>=◌, number_word, is_router, asn_word, router_word, prefix_of, prefix_or_fault, is_named, origin_word}
 use Rattle.bgp_values.specs.declared.width.Width.{Width}
 use Rattle.bgp_values.specs.Ranges.{is_asn}
+use Rattle.net_text.proofs.StepLemmas.{NoMemory, plain, either_way, one_by_one}
 use Rattle.schedule_text.specs.declared.operands.TheConstants.{MOST_COUNT}
 use Rattle.schedule_text.specs.declared.keyword.Keyword.{Keyword}
 use Rattle.schedule_text.specs.declared.keyword.Keyword.TheVariants as keyword
@@ -18,91 +19,62 @@ use Rattle.std.specs.Prelude.{IsOk}
 use Rattle.std.specs.List.{All}
 use Rattle.world_core.specs.declared.schedule.Order.{Order}
 
-abbrev NoMemory : {A : Type 0} → Result A Code → Type 0
-NoMemory {A} r = let memory : Result A Code = Err codes.Memory in r ≡ memory → ⊥
-
-good : {A : Type 0} (x : A) → NoMemory {A = A} (Ok x)
-good x e = cc
-
-bad_form : {A : Type 0} → NoMemory {A = A} (Err codes.BadForm)
-bad_form e = cc
-
-unreadable : {A : Type 0} → NoMemory {A = A} (Err codes.Unreadable)
-unreadable e = cc
-
-out_of_limit : {A : Type 0} → NoMemory {A = A} (Err codes.OutOfLimit)
-out_of_limit e = cc
-
-unknown : {A : Type 0} → NoMemory {A = A} (Err codes.UnknownRouter)
-unknown e = cc
-
-bad_prefix : {A : Type 0} → NoMemory {A = A} (Err codes.BadPrefix)
-bad_prefix e = cc
-
-either : {A : Type 0} (b : Bool) (x y : Result A Code) → NoMemory x → NoMemory y → NoMemory (cond b x y)
-either true x y h k = h
-either false x y h k = k
-
-onward : {A B : Type 0} (r : Result A Code) (f : A → Result B Code) → NoMemory r → ((x : A) → NoMemory (f x)) → NoMemory (r >>= f)
-onward (Ok x) f h k e = k x e
-onward (Err code) f h k e = h (let same : code ≡ codes.Memory = cc in ap Err same)
-
 with_good : {A B : Type 0} (r : Result A Code) (f : A → B) → NoMemory r → NoMemory (r >>= λ x. Ok (f x))
-with_good r f h = onward r (λ x. Ok (f x)) h (λ x. good (f x))
+with_good r f h = one_by_one r (λ x. Ok (f x)) h (λ x. plain (Ok (f x)) refl)
 
 -- ---- words
 
 number : (test : ℕ → Bool) (word : Text) → NoMemory (number_word test word)
-number test word = either _ _ _ unreadable (either _ _ _ out_of_limit (good _))
+number test word = either_way _ _ _ (plain (Err codes.Unreadable) refl) (either_way _ _ _ (plain (Err codes.OutOfLimit) refl) (plain (Ok _) refl))
 
 router : (width : Width) (routers : List NetRouter) (word : Text) → NoMemory (router_word width routers word)
 router width routers word =
-    onward (asn_word width word) (λ u. cond (not (is_router routers u)) (Err codes.UnknownRouter) (Ok u)) (number (is_asn width) word) (λ u. either _ _ _ unknown (good u))
+    one_by_one (asn_word width word) (λ u. cond (not (is_router routers u)) (Err codes.UnknownRouter) (Ok u)) (number (is_asn width) word) (λ u. either_way _ _ _ (plain (Err codes.UnknownRouter) refl) (plain (Ok u) refl))
 
 prefix : (q : Option PrefixView) → NoMemory (prefix_or_fault q)
-prefix None = bad_prefix
-prefix (Some q) = good q
+prefix None = plain (Err codes.BadPrefix) refl
+prefix (Some q) = plain (Ok q) refl
 
 origin : (origins : List Origin) (word : Text) → NoMemory (origin_word origins word)
 origin origins word =
-    onward (prefix_or_fault (prefix_of word)) (λ q. cond (not (is_named origins q)) (Err codes.BadPrefix) (Ok q)) (prefix (prefix_of word)) (λ q. either _ _ _ bad_prefix (good q))
+    one_by_one (prefix_or_fault (prefix_of word)) (λ q. cond (not (is_named origins q)) (Err codes.BadPrefix) (Ok q)) (prefix (prefix_of word)) (λ q. either_way _ _ _ (plain (Err codes.BadPrefix) refl) (plain (Ok q) refl))
 
 -- ---- operands
 
 module _ (net : Plan) where
   of_router : (words : List Text) → NoMemory (router_operand net words)
-  of_router [] = bad_form
+  of_router [] = plain (Err codes.BadForm) refl
   of_router (a ∷ []) = router net.settings.width net.routers a
-  of_router (a ∷ b ∷ words) = bad_form
+  of_router (a ∷ b ∷ words) = plain (Err codes.BadForm) refl
 
   abbrev both : {A : Type 0} → ℕ → A → ℕ × A
   both u x = (u, x)
 
   of_two : {A : Type 0} (a b : Text) (second : Text → Result A Code) → NoMemory (second b) → NoMemory (router_word net.settings.width net.routers a >>= λ u. second b >>= λ x. Ok (both u x))
-  of_two a b second h = onward (router_word net.settings.width net.routers a) (λ u. second b >>= λ x. Ok (both u x)) (router net.settings.width net.routers a) (λ u. with_good (second b) (both u) h)
+  of_two a b second h = one_by_one (router_word net.settings.width net.routers a) (λ u. second b >>= λ x. Ok (both u x)) (router net.settings.width net.routers a) (λ u. with_good (second b) (both u) h)
 
   of_peers : (words : List Text) → NoMemory (peer_operands net words)
-  of_peers [] = bad_form
-  of_peers (a ∷ []) = bad_form
+  of_peers [] = plain (Err codes.BadForm) refl
+  of_peers (a ∷ []) = plain (Err codes.BadForm) refl
   of_peers (a ∷ b ∷ []) = of_two a b (router_word net.settings.width net.routers) (router net.settings.width net.routers b)
-  of_peers (a ∷ b ∷ c ∷ words) = bad_form
+  of_peers (a ∷ b ∷ c ∷ words) = plain (Err codes.BadForm) refl
 
   of_prefix : (words : List Text) → NoMemory (prefix_operands net words)
-  of_prefix [] = bad_form
-  of_prefix (a ∷ []) = bad_form
+  of_prefix [] = plain (Err codes.BadForm) refl
+  of_prefix (a ∷ []) = plain (Err codes.BadForm) refl
   of_prefix (a ∷ b ∷ []) = of_two a b (origin_word net.origins) (origin net.origins b)
-  of_prefix (a ∷ b ∷ c ∷ words) = bad_form
+  of_prefix (a ∷ b ∷ c ∷ words) = plain (Err codes.BadForm) refl
 
   of_number : (words : List Text) → NoMemory (number_operands net words)
-  of_number [] = bad_form
-  of_number (a ∷ []) = bad_form
+  of_number [] = plain (Err codes.BadForm) refl
+  of_number (a ∷ []) = plain (Err codes.BadForm) refl
   of_number (a ∷ b ∷ []) = of_two a b (number_word (is_within 4294967295)) (number (is_within 4294967295) b)
-  of_number (a ∷ b ∷ c ∷ words) = bad_form
+  of_number (a ∷ b ∷ c ∷ words) = plain (Err codes.BadForm) refl
 
   of_count : (words : List Text) → NoMemory (count_operand words)
-  of_count [] = bad_form
+  of_count [] = plain (Err codes.BadForm) refl
   of_count (a ∷ []) = number (is_within MOST_COUNT) a
-  of_count (a ∷ b ∷ words) = bad_form
+  of_count (a ∷ b ∷ words) = plain (Err codes.BadForm) refl
 
   -- ---- lines
 
@@ -125,15 +97,15 @@ module _ (net : Plan) where
   of_keyword keyword.Ticks words = with_good (count_operand words) _ (of_count words)
 
   of_found : (k : Option Keyword) (words : List Text) → NoMemory (keyword_order net k words)
-  of_found None words = bad_form
+  of_found None words = plain (Err codes.BadForm) refl
   of_found (Some k) words = with_good (ordered net k words) _ (of_keyword k words)
 
   of_words : (words : List Text) → NoMemory (words_order net words)
-  of_words [] = good None
+  of_words [] = plain (Ok None) refl
   of_words (name ∷ words) = of_found (keyword_of name) words
 
   of_line : (text : Text) → NoMemory (line_order net text)
-  of_line text = either (is_skipped text) _ _ (good None) (either (not (is_ascii text)) _ _ bad_form (of_words (words_of text)))
+  of_line text = either_way (is_skipped text) _ _ (plain (Ok None) refl) (either_way (not (is_ascii text)) _ _ (plain (Err codes.BadForm) refl) (of_words (words_of text)))
 
   -- the fault of a line
   pub is_faulty : (text : Text) (code : Code) → Err code ≡ line_order net text → IsFaulty net text code

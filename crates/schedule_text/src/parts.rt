@@ -112,10 +112,10 @@ fn put_each_part(
 }
 
 /// Appends the routes that routers recorded in the snapshot of this number. There is a line for each router that has a
-/// part of it, routers rising, and each prefix that the network originates. It has the path that the part keeps for the
+/// part of the snapshot, routers rising, and each prefix that the network originates. It has the path that the part keeps for the
 /// prefix, or `none`. A router without a part has no line.
 ///
-/// It is refused only where memory was, and then leaves what the buffer had.
+/// It is refused only for want of memory, and then leaves what the buffer had.
 pub fn put_parts(
     network: &Network,
     collector: &Collector,

@@ -31,7 +31,7 @@ fn put_each_path(
 /// Appends the routes of a router: a line for the prefix of each origin, with this number and the path that the router
 /// keeps for the prefix, or `none`.
 ///
-/// It is refused only where memory was, and then leaves what the buffer had.
+/// It is refused only for want of memory, and then leaves what the buffer had.
 pub fn put_router(
     number: Asn,
     router: &Router<'_>,

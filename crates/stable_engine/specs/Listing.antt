@@ -3,7 +3,7 @@ use Rattle.std.specs.Prelude.{ℕ, ◌==◌, ◌+◌, ◌^◌, nat_lt, not, Bool
 use Rattle.std.specs.List.{flat_map}
 use Rattle.prefix_lanes.specs.Bits.{PrefixView}
 use Rattle.ranked_policy.specs.declared.network.NetRouter.{NetRouter}
-use Rattle.net_text.specs.Printing.{line, prefix_text, numbers_text, routed_line}
+use Rattle.net_text.specs.Printing.{line, prefix_text, marked, numbers_text, routed_line}
 use Rattle.stable_search.specs.declared.every.Component.{Component}
 use Rattle.stable_search.specs.Every.{number_of}
 
@@ -17,15 +17,12 @@ count_text n = if nat_lt n (2 ^ 64) then decimal n else codes "many"
 unfoldable pub prefix_line : PrefixView → ℕ → List ℕ
 prefix_line q n = line (codes "prefix" ++ (prefix_text q ++ (codes " stable " ++ count_text n)))
 
-abbrev pub numbers_behind : List ℕ → List ℕ
-numbers_behind us = flat_map (λ u. codes " " ++ decimal u) us
-
 abbrev pub paths_behind : List (List ℕ) → List ℕ
 paths_behind paths = flat_map (λ path. codes " " ++ numbers_text path) paths
 
 -- a dispute: its number, how many choices it has, and its routers
 unfoldable pub dispute_line : ℕ → PrefixView → ℕ → List ℕ → List ℕ
-dispute_line i q n us = line (codes "dispute " ++ (decimal i ++ (prefix_text q ++ (codes " stable " ++ (decimal n ++ (codes " routers" ++ numbers_behind us))))))
+dispute_line i q n us = line (codes "dispute " ++ (decimal i ++ (prefix_text q ++ (codes " stable " ++ (decimal n ++ (codes " routers" ++ marked 32 us))))))
 
 -- a choice: the path of each router of the dispute
 unfoldable pub choice_line : List (List ℕ) → List ℕ
@@ -33,7 +30,7 @@ choice_line paths = line (codes "choice" ++ paths_behind paths)
 
 -- a prefix of which not all is known, and why: a word, and routers behind it
 unfoldable pub unknown_line : PrefixView → List ℕ → List ℕ → List ℕ
-unknown_line q why us = line (codes "prefix" ++ (prefix_text q ++ (codes " unknown " ++ (why ++ numbers_behind us))))
+unknown_line q why us = line (codes "prefix" ++ (prefix_text q ++ (codes " unknown " ++ (why ++ marked 32 us))))
 
 -- ---- the routers that have the same path in all
 

@@ -1,39 +1,28 @@
-//! The lines of a prefix, of its disputes and of their choices. Each call appends a whole line, with its end.
+//! The lines of a prefix, of its disputes and of their choices. Each call appends a whole line, with its end; a refused
+//! one may leave a part of it.
 
 ghost use Rattle.std.specs.Prelude.{◌≡◌, ◌++◌, OnOk};
 ghost use Rattle.stable_search.specs.Every.{number_of};
-ghost use Rattle.stable_engine.specs.Listing.{count_text, prefix_line, numbers_behind, paths_behind, dispute_line, choice_line, unknown_line};
+ghost use Rattle.stable_engine.specs.Listing.{count_text, prefix_line, paths_behind, dispute_line, choice_line, unknown_line};
 
-use net_text::{TextTail, put_path};
+use net_text::{put_len, put_marked, put_numbers, put_prefixes};
 use prefix_lanes::Prefix;
 use ranked_policy::{Asn, Path};
 use stable_search::Every;
 use std::alloc::AllocError;
 
-// Writes how many assignments are stable.
-fn write_count(out: &mut TextTail, every: &Every) -> Result<(), AllocError>
-    ensures text { OnOk result (out.new.text ≡ out.old.text ++ count_text (number_of every.now.parts)) }
-    ensures front { out.new.front ≡ out.old.front }
+// Appends how many assignments are stable.
+fn put_count(every: &Every, out: &mut Vec<u8>) -> Result<(), AllocError>
+    ensures { OnOk result (out.new.items ≡ out.old.items ++ count_text (number_of every.now.parts)) }
 {
     match every.count() {
-        Some(count) => out.put_len(count as usize),
-        None => out.put_text(b"many"),
+        Some(count) => put_len(out, count as usize),
+        None => out.extend_from_slice(b"many"),
     }
 }
 
-#[tactic(auto, unfolding(crate::specs::Listing::prefix_line))]
-fn write_prefix(out: &mut TextTail, prefix: &Prefix, every: &Every) -> Result<(), AllocError>
-    ensures text { OnOk result (out.new.text ≡ out.old.text ++ prefix_line prefix.now (number_of every.now.parts)) }
-    ensures front { out.new.front ≡ out.old.front }
-{
-    out.put_text(b"prefix")?;
-    out.put_prefixes(&[*prefix])?;
-    out.put_text(b" stable ")?;
-    write_count(out, every)?;
-    out.put_text(b"\n")
-}
-
 /// Appends a prefix, and how many assignments are stable for it.
+#[tactic(auto, unfolding(crate::specs::Listing::prefix_line))]
 pub(crate) fn put_prefix_line(
     prefix: &Prefix,
     every: &Every,
@@ -41,58 +30,26 @@ pub(crate) fn put_prefix_line(
 ) -> Result<(), AllocError>
     ensures { OnOk result (out.new.items ≡ out.old.items ++ prefix_line prefix.now (number_of every.now.parts)) }
 {
-    let mut tail = TextTail::behind(out);
-    let result = write_prefix(&mut tail, prefix, every);
-    *out = tail.finish(result.is_ok());
-    result
+    out.extend_from_slice(b"prefix")?;
+    put_prefixes(out, &[*prefix])?;
+    out.extend_from_slice(b" stable ")?;
+    put_count(every, out)?;
+    out.extend_from_slice(b"\n")
 }
 
-// Writes numbers, a space before each.
-fn write_numbers(out: &mut TextTail, numbers: &[Asn]) -> Result<(), AllocError>
-    ensures text { OnOk result (out.new.text ≡ out.old.text ++ numbers_behind numbers.now) }
-    ensures front { out.new.front ≡ out.old.front }
-{
-    for number in numbers {
-        out.put_text(b" ")?;
-        out.put_decimal(*number)?;
-    }
-    Ok(())
-}
-
-// Writes paths, a space before each.
-fn write_paths(out: &mut TextTail, paths: &[Path]) -> Result<(), AllocError>
-    ensures text { OnOk result (out.new.text ≡ out.old.text ++ paths_behind paths.now) }
-    ensures front { out.new.front ≡ out.old.front }
+// Appends paths, a space before each.
+fn put_paths(paths: &[Path], out: &mut Vec<u8>) -> Result<(), AllocError>
+    ensures { OnOk result (out.new.items ≡ out.old.items ++ paths_behind paths.now) }
 {
     for path in paths {
-        out.put_text(b" ")?;
-        put_path(out, path.as_slice())?;
+        out.extend_from_slice(b" ")?;
+        put_numbers(out, path.as_slice())?;
     }
     Ok(())
-}
-
-#[tactic(auto, unfolding(crate::specs::Listing::dispute_line))]
-fn write_dispute(
-    out: &mut TextTail,
-    number: usize,
-    prefix: &Prefix,
-    count: usize,
-    routers: &[Asn],
-) -> Result<(), AllocError>
-    ensures text { OnOk result (out.new.text ≡ out.old.text ++ dispute_line number prefix.now count routers.now) }
-    ensures front { out.new.front ≡ out.old.front }
-{
-    out.put_text(b"dispute ")?;
-    out.put_len(number)?;
-    out.put_prefixes(&[*prefix])?;
-    out.put_text(b" stable ")?;
-    out.put_len(count)?;
-    out.put_text(b" routers")?;
-    write_numbers(out, routers)?;
-    out.put_text(b"\n")
 }
 
 /// Appends a dispute: its number, how many choices it has, and its routers.
+#[tactic(auto, unfolding(crate::specs::Listing::dispute_line))]
 pub(crate) fn put_dispute_line(
     number: usize,
     prefix: &Prefix,
@@ -102,51 +59,28 @@ pub(crate) fn put_dispute_line(
 ) -> Result<(), AllocError>
     ensures { OnOk result (out.new.items ≡ out.old.items ++ dispute_line number prefix.now count routers.now) }
 {
-    let mut tail = TextTail::behind(out);
-    let result = write_dispute(&mut tail, number, prefix, count, routers);
-    *out = tail.finish(result.is_ok());
-    result
-}
-
-#[tactic(auto, unfolding(crate::specs::Listing::choice_line))]
-fn write_choice(out: &mut TextTail, paths: &[Path]) -> Result<(), AllocError>
-    ensures text { OnOk result (out.new.text ≡ out.old.text ++ choice_line paths.now) }
-    ensures front { out.new.front ≡ out.old.front }
-{
-    out.put_text(b"choice")?;
-    write_paths(out, paths)?;
-    out.put_text(b"\n")
+    out.extend_from_slice(b"dispute ")?;
+    put_len(out, number)?;
+    put_prefixes(out, &[*prefix])?;
+    out.extend_from_slice(b" stable ")?;
+    put_len(out, count)?;
+    out.extend_from_slice(b" routers")?;
+    put_marked(out, routers, b' ')?;
+    out.extend_from_slice(b"\n")
 }
 
 /// Appends a choice: the path of each router of a dispute.
+#[tactic(auto, unfolding(crate::specs::Listing::choice_line))]
 pub(crate) fn put_choice_line(paths: &[Path], out: &mut Vec<u8>) -> Result<(), AllocError>
     ensures { OnOk result (out.new.items ≡ out.old.items ++ choice_line paths.now) }
 {
-    let mut tail = TextTail::behind(out);
-    let result = write_choice(&mut tail, paths);
-    *out = tail.finish(result.is_ok());
-    result
-}
-
-#[tactic(auto, unfolding(crate::specs::Listing::unknown_line))]
-fn write_unknown(
-    out: &mut TextTail,
-    prefix: &Prefix,
-    why: &[u8],
-    routers: &[Asn],
-) -> Result<(), AllocError>
-    ensures text { OnOk result (out.new.text ≡ out.old.text ++ unknown_line prefix.now why.now routers.now) }
-    ensures front { out.new.front ≡ out.old.front }
-{
-    out.put_text(b"prefix")?;
-    out.put_prefixes(&[*prefix])?;
-    out.put_text(b" unknown ")?;
-    out.put_text(why)?;
-    write_numbers(out, routers)?;
-    out.put_text(b"\n")
+    out.extend_from_slice(b"choice")?;
+    put_paths(paths, out)?;
+    out.extend_from_slice(b"\n")
 }
 
 /// Appends a prefix of which not all is known, a word that says why, and the routers that it is about.
+#[tactic(auto, unfolding(crate::specs::Listing::unknown_line))]
 pub(crate) fn put_unknown_line(
     prefix: &Prefix,
     why: &[u8],
@@ -155,8 +89,10 @@ pub(crate) fn put_unknown_line(
 ) -> Result<(), AllocError>
     ensures { OnOk result (out.new.items ≡ out.old.items ++ unknown_line prefix.now why.now routers.now) }
 {
-    let mut tail = TextTail::behind(out);
-    let result = write_unknown(&mut tail, prefix, why, routers);
-    *out = tail.finish(result.is_ok());
-    result
+    out.extend_from_slice(b"prefix")?;
+    put_prefixes(out, &[*prefix])?;
+    out.extend_from_slice(b" unknown ")?;
+    out.extend_from_slice(why)?;
+    put_marked(out, routers, b' ')?;
+    out.extend_from_slice(b"\n")
 }

@@ -2,8 +2,8 @@
 //! writes the run as a schedule: the network's lines, then each event that was done as an order, with comments of what
 //! it did.
 //!
-//! The contract of `bgpnet trace` is that of [`trace_stream`]: what is written is the text of what was read, to the
-//! octet; only the comments behind an event are left open. The definitions stand in `specs/`: `Tracing` (the text of
+//! The contract of `bgpnet trace` is that of [`trace_stream`]: what was read fixes what is written, to the octet,
+//! but for the comments behind an event. The definitions stand in `specs/`: `Tracing` (the text of
 //! events and orders) and `Tracings` (that of an input). No thread is started here.
 #![tactic(auto)]
 
@@ -13,7 +13,6 @@ mod lines;
 mod notes;
 mod orders;
 mod stream;
-mod trace;
 mod tracer;
 
-pub use trace::trace_stream;
+pub use stream::trace_stream;

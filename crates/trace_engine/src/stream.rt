@@ -1,17 +1,18 @@
-//! What is printed for an input of a network and a schedule.
+//! `bgpnet trace`: the run that a schedule leads to, as a schedule.
 
 ghost use Rattle.std.specs.Prelude.{◌^◌, ◌<◌, ◌+◌, length, codes, IfOk};
 ghost use Rattle.net_text.specs.Lexing.{lines_of};
 ghost use Rattle.text_engines.specs.Decoding.{output};
+ghost use Rattle.text_engines.specs.Engine.{IsAnswered};
 ghost use Rattle.text_engines.specs.Inputs.{LinesGive};
-ghost use Rattle.trace_engine.specs.Tracings.{ScheduleTraces, LinesTrace, network_lines};
+ghost use Rattle.trace_engine.specs.Tracings.{ScheduleTraces, LinesTrace, Traces, network_lines};
 
 use crate::orders::orders_output;
 use net_text::{Split, read_network, split_at_section};
 use ranked_policy::Network;
 use schedule_text::read_schedule;
 use std::alloc::{AllocError, Global};
-use text_engines::{Engine, text_output};
+use text_engines::{Engine, IoStopped, Sink, Source, answer_input, text_output};
 
 // What is printed for a schedule behind a network of these lines, so many lines standing before it.
 fn schedule_output(
@@ -57,10 +58,10 @@ fn network_output(
     }
 }
 
-/// What `trace` answers: a network and a schedule behind it, with the octets of what is sent, or without.
+// What `trace` answers: a network and a schedule behind it, with the octets of what is sent, or without.
 #[derive(Drop)]
-pub(crate) struct TraceEngine {
-    pub(crate) shows_octets: bool,
+struct TraceEngine {
+    shows_octets: bool,
 }
 
 impl Engine for TraceEngine {
@@ -70,4 +71,24 @@ impl Engine for TraceEngine {
         let split = split_at_section(text, b"schedule");
         network_output(alloc, self.shows_octets, &split)
     }
+}
+
+/// Reads a network and a schedule, and writes the run that the schedule leads to as a schedule: the network's
+/// lines, the line `schedule`, and the order of each event that was done, with comments of what it did and of what
+/// stood for many events; or the first line that is refused. Answers the status. With `shows_octets` the comments of a
+/// put have the octets that go, in hex.
+///
+/// Where an order is refused its trace ends with a comment that says so. Where memory is refused it writes `memory`
+/// alone and answers 3. It stops only where a read or a write failed, and then what was written is a beginning of
+/// the text.
+pub fn trace_stream<S: Source, T: Sink>(
+    alloc: Global,
+    shows_octets: bool,
+    source: &mut S,
+    sink: &mut T,
+) -> Result<u8, IoStopped>
+    ensures { IsAnswered Traces (S.remaining source.old) (T.contents sink.old) (T.contents sink.new)
+        (S.failed source.old) (S.failed source.new) (T.failed sink.old) (T.failed sink.new) result }
+{
+    answer_input(alloc, &TraceEngine { shows_octets }, source, sink)
 }

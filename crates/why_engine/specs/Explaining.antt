@@ -21,7 +21,7 @@ use Rattle.router_core.specs.Views.{RouterView, heard_now, told_now}
 use Rattle.world_core.specs.World.{World}
 use Rattle.world_core.specs.Views.{WorldView, plain_world, pipes_of}
 use Rattle.net_text.specs.declared.code.Code.TheVariants as kinds
-use Rattle.net_text.specs.Printing.{line, prefix_text, numbers_text, code_text}
+use Rattle.net_text.specs.Printing.{line, prefix_text, numbers_text, marked, code_text}
 use Rattle.text_engines.specs.declared.status.TheConstants.{DONE}
 use Rattle.text_engines.specs.Decoding.{Output, output, refused}
 
@@ -117,11 +117,8 @@ words_text table q kept sides vs = flat_map (λ v. said_text table q kept v (pat
 abbrev pub is_told : List ℕ → Side → PrefixView → Bool
 is_told kept s q = is_up s && same_path kept (path_in (told_now s q))
 
-abbrev pub numbers_behind : List ℕ → List ℕ
-numbers_behind vs = flat_map (λ v. codes " " ++ decimal v) vs
-
 unfoldable pub told_line : List ℕ → List ℕ
-told_line vs = line (codes "  told" ++ numbers_behind vs)
+told_line vs = line (codes "  told" ++ marked 32 vs)
 
 abbrev pub told_text : List ℕ → List ℕ
 told_text [] = []

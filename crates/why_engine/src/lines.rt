@@ -1,9 +1,10 @@
-//! The lines of a router, of its peers and of its prefixes. Each call appends a whole line, with its end.
+//! The lines of a router, of its peers and of its prefixes. Each call appends a whole line, with its end; a refused one
+//! may leave a part of it.
 
 ghost use Rattle.std.specs.Prelude.{◌≡◌, ◌++◌, OnOk};
-ghost use Rattle.why_engine.specs.Explaining.{state_text, outbox_text, coming_text, number_text, behind_word, session_text, peer_line, originated_text, kept_line, numbers_behind, told_line, router_line};
+ghost use Rattle.why_engine.specs.Explaining.{state_text, outbox_text, coming_text, number_text, behind_word, session_text, peer_line, originated_text, kept_line, told_line, router_line};
 
-use net_text::{TextTail, put_path};
+use net_text::{put_decimal, put_len, put_marked, put_numbers, put_prefixes};
 use prefix_lanes::Prefix;
 use ranked_policy::Asn;
 use session_fsm::State;
@@ -23,83 +24,57 @@ fn state_text(state: State) -> &'static [u8]
     }
 }
 
-fn write_state(out: &mut TextTail, state: State) -> Result<(), AllocError>
-    ensures text { OnOk result (out.new.text ≡ out.old.text ++ state_text state) }
-    ensures front { out.new.front ≡ out.old.front }
+fn put_state(state: State, out: &mut Vec<u8>) -> Result<(), AllocError>
+    ensures { OnOk result (out.new.items ≡ out.old.items ++ state_text state) }
 {
-    out.put_text(state_text(state))
+    out.extend_from_slice(state_text(state))
 }
 
-fn write_outbox(out: &mut TextTail, waiting: usize) -> Result<(), AllocError>
-    ensures text { OnOk result (out.new.text ≡ out.old.text ++ outbox_text waiting) }
-    ensures front { out.new.front ≡ out.old.front }
+#[tactic(auto, unfolding(crate::specs::Explaining::number_text))]
+fn put_number(peer: Asn, out: &mut Vec<u8>) -> Result<(), AllocError>
+    ensures { OnOk result (out.new.items ≡ out.old.items ++ number_text peer) }
+{
+    out.extend_from_slice(b"peer ")?;
+    put_decimal(out, peer)?;
+    out.extend_from_slice(b" ")
+}
+
+#[tactic(auto, unfolding(crate::specs::Explaining::behind_word))]
+fn put_behind(word: &[u8], number: u32, out: &mut Vec<u8>) -> Result<(), AllocError>
+    ensures { OnOk result (out.new.items ≡ out.old.items ++ behind_word word.now number) }
+{
+    out.extend_from_slice(word)?;
+    put_decimal(out, number)
+}
+
+#[tactic(auto, unfolding(crate::specs::Explaining::session_text))]
+fn put_session(peer: Asn, state: State, epoch: u32, out: &mut Vec<u8>) -> Result<(), AllocError>
+    ensures { OnOk result (out.new.items ≡ out.old.items ++ session_text peer state epoch) }
+{
+    put_number(peer, out)?;
+    put_state(state, out)?;
+    put_behind(b" incarnation ", epoch, out)
+}
+
+fn put_outbox(waiting: usize, out: &mut Vec<u8>) -> Result<(), AllocError>
+    ensures { OnOk result (out.new.items ≡ out.old.items ++ outbox_text waiting) }
 {
     if waiting == 0 {
         return Ok(());
     }
-    out.put_text(b" outbox ")?;
-    out.put_len(waiting)
+    out.extend_from_slice(b" outbox ")?;
+    put_len(out, waiting)
 }
 
-fn write_coming(out: &mut TextTail, coming: bool) -> Result<(), AllocError>
-    ensures text { OnOk result (out.new.text ≡ out.old.text ++ coming_text coming) }
-    ensures front { out.new.front ≡ out.old.front }
+fn coming_text(coming: bool) -> &'static [u8]
+    ensures { result.now ≡ coming_text coming }
 {
-    if coming {
-        return out.put_text(b" on its way");
-    }
-    Ok(())
-}
-
-#[tactic(auto, unfolding(crate::specs::Explaining::number_text))]
-fn write_number(out: &mut TextTail, peer: Asn) -> Result<(), AllocError>
-    ensures text { OnOk result (out.new.text ≡ out.old.text ++ number_text peer) }
-    ensures front { out.new.front ≡ out.old.front }
-{
-    out.put_text(b"peer ")?;
-    out.put_decimal(peer)?;
-    out.put_text(b" ")
-}
-
-#[tactic(auto, unfolding(crate::specs::Explaining::behind_word))]
-fn write_behind(out: &mut TextTail, word: &[u8], number: u32) -> Result<(), AllocError>
-    ensures text { OnOk result (out.new.text ≡ out.old.text ++ behind_word word.now number) }
-    ensures front { out.new.front ≡ out.old.front }
-{
-    out.put_text(word)?;
-    out.put_decimal(number)
-}
-
-#[tactic(auto, unfolding(crate::specs::Explaining::session_text))]
-fn write_session(out: &mut TextTail, peer: Asn, state: State, epoch: u32) -> Result<(), AllocError>
-    ensures text { OnOk result (out.new.text ≡ out.old.text ++ session_text peer state epoch) }
-    ensures front { out.new.front ≡ out.old.front }
-{
-    write_number(out, peer)?;
-    write_state(out, state)?;
-    write_behind(out, b" incarnation ", epoch)
-}
-
-#[tactic(auto, unfolding(crate::specs::Explaining::peer_line))]
-fn write_peer(
-    out: &mut TextTail,
-    peer: Asn,
-    state: State,
-    epoch: u32,
-    waiting: usize,
-    coming: bool,
-) -> Result<(), AllocError>
-    ensures text { OnOk result (out.new.text ≡ out.old.text ++ peer_line peer state epoch waiting coming) }
-    ensures front { out.new.front ≡ out.old.front }
-{
-    write_session(out, peer, state, epoch)?;
-    write_outbox(out, waiting)?;
-    write_coming(out, coming)?;
-    out.put_text(b"\n")
+    if coming { b" on its way" } else { b"" }
 }
 
 /// Appends a peer: the state of the session with it, the incarnation of the link, how many octets wait towards it, and
 /// whether something of it is on its way.
+#[tactic(auto, unfolding(crate::specs::Explaining::peer_line))]
 pub(crate) fn put_peer_line(
     peer: Asn,
     state: State,
@@ -110,41 +85,20 @@ pub(crate) fn put_peer_line(
 ) -> Result<(), AllocError>
     ensures { OnOk result (out.new.items ≡ out.old.items ++ peer_line peer state epoch waiting coming) }
 {
-    let mut tail = TextTail::behind(out);
-    let result = write_peer(&mut tail, peer, state, epoch, waiting, coming);
-    *out = tail.finish(result.is_ok());
-    result
+    put_session(peer, state, epoch, out)?;
+    put_outbox(waiting, out)?;
+    out.extend_from_slice(coming_text(coming))?;
+    out.extend_from_slice(b"\n")
 }
 
-fn write_originated(out: &mut TextTail, originated: bool) -> Result<(), AllocError>
-    ensures text { OnOk result (out.new.text ≡ out.old.text ++ originated_text originated) }
-    ensures front { out.new.front ≡ out.old.front }
+fn originated_text(originated: bool) -> &'static [u8]
+    ensures { result.now ≡ originated_text originated }
 {
-    if originated {
-        return out.put_text(b", originated");
-    }
-    Ok(())
-}
-
-#[tactic(auto, unfolding(crate::specs::Explaining::kept_line))]
-fn write_kept(
-    out: &mut TextTail,
-    prefix: &Prefix,
-    kept: &[Asn],
-    originated: bool,
-) -> Result<(), AllocError>
-    ensures text { OnOk result (out.new.text ≡ out.old.text ++ kept_line prefix.now kept.now originated) }
-    ensures front { out.new.front ≡ out.old.front }
-{
-    out.put_text(b"prefix")?;
-    out.put_prefixes(&[*prefix])?;
-    out.put_text(b" keeps ")?;
-    put_path(out, kept)?;
-    write_originated(out, originated)?;
-    out.put_text(b"\n")
+    if originated { b", originated" } else { b"" }
 }
 
 /// Appends the path that is kept for a prefix, and whether the router originates it.
+#[tactic(auto, unfolding(crate::specs::Explaining::kept_line))]
 pub(crate) fn put_kept_line(
     prefix: &Prefix,
     kept: &[Asn],
@@ -153,60 +107,30 @@ pub(crate) fn put_kept_line(
 ) -> Result<(), AllocError>
     ensures { OnOk result (out.new.items ≡ out.old.items ++ kept_line prefix.now kept.now originated) }
 {
-    let mut tail = TextTail::behind(out);
-    let result = write_kept(&mut tail, prefix, kept, originated);
-    *out = tail.finish(result.is_ok());
-    result
-}
-
-// Writes numbers, a space before each.
-fn write_numbers(out: &mut TextTail, numbers: &[Asn]) -> Result<(), AllocError>
-    ensures text { OnOk result (out.new.text ≡ out.old.text ++ numbers_behind numbers.now) }
-    ensures front { out.new.front ≡ out.old.front }
-{
-    for number in numbers {
-        out.put_text(b" ")?;
-        out.put_decimal(*number)?;
-    }
-    Ok(())
-}
-
-#[tactic(auto, unfolding(crate::specs::Explaining::told_line))]
-fn write_told(out: &mut TextTail, peers: &[Asn]) -> Result<(), AllocError>
-    ensures text { OnOk result (out.new.text ≡ out.old.text ++ told_line peers.now) }
-    ensures front { out.new.front ≡ out.old.front }
-{
-    out.put_text(b"  told")?;
-    write_numbers(out, peers)?;
-    out.put_text(b"\n")
+    out.extend_from_slice(b"prefix")?;
+    put_prefixes(out, &[*prefix])?;
+    out.extend_from_slice(b" keeps ")?;
+    put_numbers(out, kept)?;
+    out.extend_from_slice(originated_text(originated))?;
+    out.extend_from_slice(b"\n")
 }
 
 /// Appends the peers that were told the kept path.
+#[tactic(auto, unfolding(crate::specs::Explaining::told_line))]
 pub(crate) fn put_told_line(peers: &[Asn], out: &mut Vec<u8>) -> Result<(), AllocError>
     ensures { OnOk result (out.new.items ≡ out.old.items ++ told_line peers.now) }
 {
-    let mut tail = TextTail::behind(out);
-    let result = write_told(&mut tail, peers);
-    *out = tail.finish(result.is_ok());
-    result
-}
-
-#[tactic(auto, unfolding(crate::specs::Explaining::router_line))]
-fn write_router(out: &mut TextTail, number: Asn) -> Result<(), AllocError>
-    ensures text { OnOk result (out.new.text ≡ out.old.text ++ router_line number) }
-    ensures front { out.new.front ≡ out.old.front }
-{
-    out.put_text(b"router ")?;
-    out.put_decimal(number)?;
-    out.put_text(b"\n")
+    out.extend_from_slice(b"  told")?;
+    put_marked(out, peers, b' ')?;
+    out.extend_from_slice(b"\n")
 }
 
 /// Appends the number of the router that is explained.
+#[tactic(auto, unfolding(crate::specs::Explaining::router_line))]
 pub(crate) fn put_router_line(number: Asn, out: &mut Vec<u8>) -> Result<(), AllocError>
     ensures { OnOk result (out.new.items ≡ out.old.items ++ router_line number) }
 {
-    let mut tail = TextTail::behind(out);
-    let result = write_router(&mut tail, number);
-    *out = tail.finish(result.is_ok());
-    result
+    out.extend_from_slice(b"router ")?;
+    put_decimal(out, number)?;
+    out.extend_from_slice(b"\n")
 }

@@ -1,12 +1,11 @@
 //! How a router judges the path that a peer said for a prefix.
 
-ghost use Rattle.std.specs.Prelude.{◌≡◌, ◌∷◌, ◌++◌, ◌==◌, OnOk};
-ghost use Rattle.std.specs.List.{list_any};
+ghost use Rattle.std.specs.Prelude.{◌≡◌, ◌∷◌, ◌++◌, OnOk};
 ghost use Rattle.router_model.specs.State.{same_path};
-ghost use Rattle.why_engine.specs.Explaining.{place_in, place_text, kept_text, choice_text, stands_in, may_use, verdict_text, word_line, said_text};
+ghost use Rattle.why_engine.specs.Explaining.{place_in, place_text, kept_text, choice_text, stands_in, may_use, verdict_text, said_text};
 ghost use Rattle.ranked_policy.specs.Tests.{rule_for};
 
-use net_text::{TextTail, put_path};
+use net_text::{put_decimal, put_len, put_numbers};
 use prefix_lanes::Prefix;
 use ranked_policy::laws::policies_are_tests;
 use ranked_policy::{Asn, Path, PolicyTable};
@@ -41,71 +40,63 @@ fn place_among(paths: &[Path], router: Asn, said: &[Asn]) -> usize
     0
 }
 
-fn write_place(
-    out: &mut TextTail,
+fn put_place(
     table: &PolicyTable<'_>,
     prefix: &Prefix,
     said: &[Asn],
+    out: &mut Vec<u8>,
 ) -> Result<(), AllocError>
-    ensures text { OnOk result
-        (out.new.text
-        ≡ out.old.text ++ place_text (rule_for table.now.rules prefix.now) (table.now.router ∷ said.now)) }
-    ensures front { out.new.front ≡ out.old.front }
+    ensures { OnOk result
+        (out.new.items
+        ≡ out.old.items ++ place_text (rule_for table.now.rules prefix.now) (table.now.router ∷ said.now)) }
 {
     match table.rule(prefix) {
         Some(rule) => {
-            out.put_text(b", place ")?;
-            out.put_len(place_among(rule.paths.as_slice(), table.router(), said))
+            out.extend_from_slice(b", place ")?;
+            put_len(
+                out,
+                place_among(rule.paths.as_slice(), table.router(), said),
+            )
         }
         None => Ok(()),
     }
 }
 
-fn write_kept(out: &mut TextTail, kept: &[Asn], router: Asn, said: &[Asn]) -> Result<(), AllocError>
-    ensures text { OnOk result (out.new.text ≡ out.old.text ++ kept_text kept.now (router ∷ said.now)) }
-    ensures front { out.new.front ≡ out.old.front }
+fn kept_text(kept: &[Asn], router: Asn, said: &[Asn]) -> &'static [u8]
+    ensures { result.now ≡ kept_text kept.now (router ∷ said.now) }
 {
     if is_along(kept, router, said) {
-        return out.put_text(b", kept");
+        b", kept"
+    } else {
+        b""
     }
-    Ok(())
 }
 
 #[tactic(auto, unfolding(crate::specs::Explaining::choice_text))]
-fn write_choice(
-    out: &mut TextTail,
+fn put_choice(
     table: &PolicyTable<'_>,
     prefix: &Prefix,
     kept: &[Asn],
     said: &[Asn],
+    out: &mut Vec<u8>,
 ) -> Result<(), AllocError>
-    ensures text { OnOk result (out.new.text ≡ out.old.text ++ choice_text table.now prefix.now kept.now said.now) }
-    ensures front { out.new.front ≡ out.old.front }
+    ensures { OnOk result
+        (out.new.items ≡ out.old.items ++ choice_text table.now prefix.now kept.now said.now) }
 {
-    out.put_decimal(table.router())?;
-    out.put_text(b"-")?;
-    put_path(out, said)?;
-    write_place(out, table, prefix, said)?;
-    write_kept(out, kept, table.router(), said)
-}
-
-// Whether a number stands in a path.
-fn has_number(router: Asn, said: &[Asn]) -> bool
-    ensures { result ≡ list_any (λ v. v == router) said.now }
-{
-    for number in said {
-        if *number == router {
-            return true;
-        }
-    }
-    false
+    put_decimal(out, table.router())?;
+    out.extend_from_slice(b"-")?;
+    put_numbers(out, said)?;
+    put_place(table, prefix, said, out)?;
+    out.extend_from_slice(kept_text(kept, table.router(), said))
 }
 
 // Whether the router stands in what was said.
+#[tactic(auto, unfolding(crate::specs::Explaining::stands_in))]
 fn stands_in(table: &PolicyTable<'_>, said: &[Asn]) -> bool
     ensures { result ≡ stands_in table.now said.now }
 {
-    has_number(table.router(), said)
+    let router = table.router();
+    said.iter().any(|number| *number == router)
 }
 
 // Whether the router may use the path along what was said.
@@ -118,47 +109,27 @@ fn is_permitted(table: &PolicyTable<'_>, prefix: &Prefix, said: &[Asn]) -> bool
         .permits_onward(table.router(), said)
 }
 
-fn write_verdict(
-    out: &mut TextTail,
+fn put_verdict(
     table: &PolicyTable<'_>,
     prefix: &Prefix,
     kept: &[Asn],
     said: &[Asn],
+    out: &mut Vec<u8>,
 ) -> Result<(), AllocError>
-    ensures text { OnOk result (out.new.text ≡ out.old.text ++ verdict_text table.now prefix.now kept.now said.now) }
-    ensures front { out.new.front ≡ out.old.front }
+    ensures { OnOk result
+        (out.new.items ≡ out.old.items ++ verdict_text table.now prefix.now kept.now said.now) }
 {
     if stands_in(table, said) {
-        return out.put_text(b"loop");
+        return out.extend_from_slice(b"loop");
     }
     if is_permitted(table, prefix, said) {
-        return write_choice(out, table, prefix, kept, said);
+        return put_choice(table, prefix, kept, said, out);
     }
-    out.put_text(b"not permitted")
-}
-
-#[tactic(auto, unfolding(crate::specs::Explaining::word_line))]
-fn write_word(
-    out: &mut TextTail,
-    table: &PolicyTable<'_>,
-    prefix: &Prefix,
-    kept: &[Asn],
-    peer: Asn,
-    said: &[Asn],
-) -> Result<(), AllocError>
-    ensures text { OnOk result (out.new.text ≡ out.old.text ++ word_line table.now prefix.now kept.now peer said.now) }
-    ensures front { out.new.front ≡ out.old.front }
-{
-    out.put_text(b"  from ")?;
-    out.put_decimal(peer)?;
-    out.put_text(b" ")?;
-    put_path(out, said)?;
-    out.put_text(b": ")?;
-    write_verdict(out, table, prefix, kept, said)?;
-    out.put_text(b"\n")
+    out.extend_from_slice(b"not permitted")
 }
 
 /// Appends the path that a peer said for a prefix, and how the router judges it; nothing if the peer said none.
+#[tactic(auto, unfolding(crate::specs::Explaining::word_line))]
 pub(crate) fn put_said(
     table: &PolicyTable<'_>,
     prefix: &Prefix,
@@ -172,8 +143,11 @@ pub(crate) fn put_said(
     if said.is_empty() {
         return Ok(());
     }
-    let mut tail = TextTail::behind(out);
-    let result = write_word(&mut tail, table, prefix, kept, peer, said);
-    *out = tail.finish(result.is_ok());
-    result
+    out.extend_from_slice(b"  from ")?;
+    put_decimal(out, peer)?;
+    out.extend_from_slice(b" ")?;
+    put_numbers(out, said)?;
+    out.extend_from_slice(b": ")?;
+    put_verdict(table, prefix, kept, said, out)?;
+    out.extend_from_slice(b"\n")
 }

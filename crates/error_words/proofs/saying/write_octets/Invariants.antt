@@ -1,7 +1,0 @@
--- what was written, before what is left as it is shown, is all as it is shown
-use Rattle.std.proofs.Common.{◌≡◌, ◌++◌, drop, map}
-use Rattle.error_words.specs.Saying.{shown_octet}
-use Rattle.error_words.proofs.saying.write_octets.Given as goal
-
-abbrev pub invariant-loop-x : goal.invariant-loop-x
-invariant-loop-x l = record { text : l.out.text ++ map shown_octet (drop l.x-index l.octets) ≡ l.fn.out.text ++ map shown_octet l.octets; front : l.out.front ≡ l.fn.out.front }
