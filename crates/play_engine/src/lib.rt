@@ -9,15 +9,10 @@
 //! thread is started here.
 #![tactic(auto)]
 
-mod cut;
 mod cuts;
 pub mod laws;
-mod play;
 mod schedules;
 mod snapshots;
 mod stream;
-mod why;
 
-pub use cut::cut_stream;
-pub use play::play_stream;
-pub use why::why_stream;
+pub use stream::{cut_stream, play_stream, why_stream};

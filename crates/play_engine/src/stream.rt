@@ -1,19 +1,20 @@
-//! What `bgpnet play`, `bgpnet cut` and `bgpnet why` share: they read a network and a schedule, and write what is shown
-//! of the world that the schedule leads to.
+//! `bgpnet play`, `bgpnet cut` and `bgpnet why`: they read a network and a schedule, and write what is shown of the world
+//! that the schedule leads to.
 
 ghost use Rattle.std.specs.Prelude.{◌^◌, ◌<◌, ◌+◌, length, codes, IfOk};
 ghost use Rattle.net_text.specs.Lexing.{lines_of};
 ghost use Rattle.text_engines.specs.Decoding.{output};
+ghost use Rattle.text_engines.specs.Engine.{IsAnswered};
 ghost use Rattle.text_engines.specs.Inputs.{NetworkGives, LinesGive};
-ghost use Rattle.play_engine.specs.Playing.{ScheduleGives};
-ghost use Rattle.play_engine.specs.Cutting.{IsShown};
+ghost use Rattle.play_engine.specs.Playing.{ScheduleGives, Plays};
+ghost use Rattle.play_engine.specs.Cutting.{IsShown, Cuts, Whys};
 
 use crate::schedules::orders_output;
 use net_text::{Split, read_network, split_at_section};
 use ranked_policy::{Asn, Network};
 use schedule_text::read_schedule;
 use std::alloc::{AllocError, Global};
-use text_engines::{Engine, text_output};
+use text_engines::{Engine, IoStopped, Sink, Source, answer_input, text_output};
 
 /// What is shown of the world that a schedule leads to.
 #[derive(Clone, Copy)]
@@ -65,4 +66,61 @@ impl Engine for Shown {
         let split = split_at_section(text, b"schedule");
         network_output(alloc, *self, &split)
     }
+}
+
+/// Reads a network and a schedule, and writes how the snapshots came out and the routes of the world that
+/// the schedule leads to, or the first line that is refused; answers the status.
+///
+/// Where memory is refused it writes `memory` alone and answers 3. It stops only where a read or a
+/// write failed, and then what was written is a beginning of the text.
+pub fn play_stream<S: Source, T: Sink>(
+    alloc: Global,
+    source: &mut S,
+    sink: &mut T,
+) -> Result<u8, IoStopped>
+    ensures { IsAnswered Plays (S.remaining source.old) (T.contents sink.old) (T.contents sink.new)
+        (S.failed source.old) (S.failed source.new) (T.failed sink.old) (T.failed sink.new) result }
+{
+    answer_input(alloc, &Shown::Report, source, sink)
+}
+
+/// Reads a network and a schedule, and writes the cut of the snapshot of this number in the world that the
+/// schedule leads to, or the first line that is refused; answers the status.
+///
+/// Where the snapshot is settled or moving: how many events were done, and how many of them up to each
+/// router's recording; the routes that the routers recorded; and each UPDATE in flight. Else that it has
+/// no cut.
+///
+/// Where memory is refused it writes `memory` alone and answers 3. It stops only where a read or a
+/// write failed, and then what was written is a beginning of the text.
+pub fn cut_stream<S: Source, T: Sink>(
+    alloc: Global,
+    number: u32,
+    source: &mut S,
+    sink: &mut T,
+) -> Result<u8, IoStopped>
+    ensures { IsAnswered (Cuts number) (S.remaining source.old) (T.contents sink.old) (T.contents sink.new)
+        (S.failed source.old) (S.failed source.new) (T.failed sink.old) (T.failed sink.new) result }
+{
+    answer_input(alloc, &Shown::Cut(number), source, sink)
+}
+
+/// Reads a network and a schedule, and writes what the router of this number knows in the world that the schedule
+/// leads to, or the first line that is refused; answers the status.
+///
+/// That is the state of each of its sessions, and for each prefix the path that it keeps, what each peer said last,
+/// what it makes of that, and whom it told. Where the network has no such router a refusal of line 0 is written.
+///
+/// Where memory is refused it writes `memory` alone and answers 3. It stops only where a read or a
+/// write failed, and then what was written is a beginning of the text.
+pub fn why_stream<S: Source, T: Sink>(
+    alloc: Global,
+    number: Asn,
+    source: &mut S,
+    sink: &mut T,
+) -> Result<u8, IoStopped>
+    ensures { IsAnswered (Whys number) (S.remaining source.old) (T.contents sink.old) (T.contents sink.new)
+        (S.failed source.old) (S.failed source.new) (T.failed sink.old) (T.failed sink.new) result }
+{
+    answer_input(alloc, &Shown::Why(number), source, sink)
 }
