@@ -1,11 +1,11 @@
 -- The chores of a gate.
-use Rattle.std.proofs.Common.{◌≡◌, ℕ, zero, suc, ◌+◌, ◌-◌, ◌*◌, ◌/◌, ◌%◌, ◌<◌, ◌≤◌, Bool, true, false, cond, List, [], ◌∷◌, ◌++◌, length, refl, sym, ap, ◌∙◌, inl, inr, add-one, arith, length-append, get_or, map, filter, drop, append_assoc}
+use Rattle.std.proofs.Common.{◌≡◌, ℕ, zero, suc, ◌+◌, ◌-◌, ◌*◌, ◌/◌, ◌%◌, ◌<◌, ◌≤◌, Bool, true, false, cond, List, [], ◌∷◌, ◌++◌, length, refl, sym, ap, ◌∙◌, inl, inr, add-one, arith, length-append, get_or, map, filter, drop, replicate, append_assoc}
 use Rattle.std.specs.Prelude.{◌==◌, ◌||◌, nat_lt}
 use Rattle.std.proofs.lemmas.Bool.{ne_eqb, eqb-false, ltb-false, le-ltb, cases_lt}
 use Rattle.std.specs.List.{count_by}
-use Rattle.std.proofs.lemmas.List.{get_or_past, append-nil, drop_more, drop_all, length-map}
+use Rattle.std.proofs.lemmas.List.{get_or_past, append-nil, drop_more, drop_all, length-map, replicate_more}
 use Rattle.std.proofs.lemmas.List.Sums.{length-filter}
-use Rattle.std.proofs.Math.Nat.{mul-mod_left, mul-div_cancel}
+use Rattle.std.proofs.Math.Nat.{mul-mod_left, mul-div_cancel, mul-le-mul_right, suc-mul}
 use Rattle.std.proofs.lemmas.Nat.{div-add-mod'}
 use Rattle.ranked_policy.specs.Plans.{Plan, numbers}
 use Rattle.ranked_policy.specs.declared.network.NetRouter.{NetRouter}
@@ -30,6 +30,24 @@ pub next_is : (chore : ℕ → Chore) (count turn m : ℕ) (c : Chore) → turn 
 next_is chore count turn m c t e is =
     let same : turn ≡ count = t ∙ counted chore count in
     ap (first_chores chore) (ap (λ (k : ℕ). k + 1) (e ∙ same) ∙ add-one count) ∙ ap (λ (x : Chore). first_chores chore count ++ x ∷ []) (ap chore (sym same) ∙ sym is)
+
+-- so many Turns are given
+turns_given : (chore : ℕ → Chore) (count n : ℕ) → ((i : ℕ) → i < n → chore (count + i) ≡ Turn) → first_chores chore (count + n) ≡ first_chores chore count ++ replicate n Turn
+turns_given chore count zero all = ap (first_chores chore) (let e : count + 0 ≡ count = omega arith in e) ∙ sym (append-nil (first_chores chore count))
+turns_given chore count (suc n) all =
+    let before = turns_given chore count n (λ i below. all i (omega (arith, below))) in
+    let next : count + suc n ≡ suc (count + n) = omega arith in
+    ap (first_chores chore) next ∙ ap (λ (cs : List Chore). cs ++ chore (count + n) ∷ []) before
+    ∙ ap (λ (c : Chore). (first_chores chore count ++ replicate n Turn) ++ c ∷ []) (all n (omega arith))
+    ∙ append_assoc (first_chores chore count) (replicate n Turn) (Turn ∷ [])
+    ∙ ap (λ (cs : List Chore). first_chores chore count ++ cs) (replicate_more n Turn ∙ ap (λ (k : ℕ). replicate k Turn) (let e : n + 1 ≡ suc n = omega arith in e))
+
+pub next_are : (chore : ℕ → Chore) (count turn n m : ℕ) → turn ≡ length (first_chores chore count) → m ≡ turn + n → ((i : ℕ) → i < n → chore (turn + i) ≡ Turn)
+    → first_chores chore m ≡ first_chores chore count ++ replicate n Turn
+next_are chore count turn n m t e all =
+    let same : turn ≡ count = t ∙ counted chore count in
+    ap (first_chores chore) (e ∙ ap (λ (k : ℕ). k + n) same)
+    ∙ turns_given chore count n (λ i below. ap (λ (k : ℕ). chore (k + i)) (sym same) ∙ all i below)
 
 -- ---- by computing
 
@@ -60,6 +78,36 @@ later_turn q k b false false zero_is part never =
     let split : b / q * q + b % q ≡ b = div-add-mod' b q in
     let whole : b ≡ b / q * q = omega (arith, rest, split) in
     turn_or k (b / q) (b / q == 0) (nat_lt k (b / q)) refl refl (λ some few. never (b / q) some few whole)
+
+-- ---- up to the next snapshot
+
+-- behind a chore that is a Turn, and before the next number
+module _ (q k b i : ℕ) (apart : 0 < q) (turn : later_chore q k b ≡ Turn) (near : b / q < k → i < q - b % q) where
+  no_number : (s : ℕ) → 0 < s → s ≤ k → b + i ≡ s * q → ⊥
+  no_number s some few is =
+      let split : b / q * q + b % q ≡ b = div-add-mod' b q in
+      elim (cases_lt s (b / q)) [
+        | inl less ↦ (let most : suc s * q ≤ b / q * q = mul-le-mul_right q less in let one = suc-mul s q in absurd (omega (arith, most, one, split, is, apart)))
+        | inr most ↦ elim (cases_lt (b / q) s) [
+          | inl more ↦ (let least : suc (b / q) * q ≤ s * q = mul-le-mul_right q more in let one = suc-mul (b / q) q in
+              let inside = near (omega (arith, more, few)) in absurd (omega (arith, least, one, split, is, inside)))
+          | inr least ↦ (let same : s ≡ b / q = omega (arith, most, least) in let here : b ≡ s * q = (let e : s * q ≡ b / q * q = ap (λ (n : ℕ). n * q) same in omega (arith, e, split, is)) in
+              (let e = sym turn ∙ ap (later_chore q k) here ∙ numbered_is q k s apart some few in absurd cc))
+        ]
+      ]
+
+  pub turn_still : later_chore q k (b + i) ≡ Turn
+  turn_still = later_turn q k (b + i) (q == 0) (nat_lt 0 ((b + i) % q)) refl refl no_number
+
+pub no_spacing : (q k b : ℕ) → q ≡ 0 → later_chore q k b ≡ Turn
+no_spacing q k b none = rw none refl
+
+-- a chore behind the opening
+pub behind_still : (told : Told) (turn i : ℕ) → length told.opening ≤ turn → later_chore told.spacing told.snapshots ((turn - length told.opening) + i) ≡ Turn → chore_at told (turn + i) ≡ Turn
+behind_still told turn i far is =
+    let b = (turn + i) - length told.opening in
+    let same : b ≡ (turn - length told.opening) + i = omega (arith, far) in
+    get_or_past told.opening (turn + i) (later_chore told.spacing told.snapshots b) (omega (arith, far)) ∙ ap (later_chore told.spacing told.snapshots) same ∙ is
 
 module _ (told : Told) (apart : 0 < told.spacing) where
   numbered : (s : ℕ) → 0 < s → s ≤ told.snapshots → chore_at told (length told.opening + s * told.spacing) ≡ Command (Snapshot s)

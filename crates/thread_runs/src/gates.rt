@@ -1,6 +1,7 @@
 //! The gate of a router of `bgpnet run`.
 
-ghost use Rattle.std.specs.Prelude.{◌≡◌, ◌<◌, []};
+ghost use Rattle.std.specs.Prelude.{◌≡◌, ℕ, ◌+◌, ◌<◌, []};
+ghost use Rattle.worker_loop.specs.declared.chore.Chore.TheVariants.{Turn};
 ghost use Rattle.thread_runs.specs.Gates.{AreChores, chore_at, later_chore, given_by, told_of};
 
 use net_workers::{Chore, Gate};
@@ -64,7 +65,9 @@ fn chore_at(opening: &[Chore], spacing: u32, snapshots: u32, turn: u32) -> Chore
 }
 
 // At least how many chores from so far behind the opening on are Turns: all up to the next snapshot, if one comes.
-fn turns_from(spacing: u32, snapshots: u32, behind: u32) -> u32 {
+fn turns_from(spacing: u32, snapshots: u32, behind: u32) -> u32
+    ensures { (i : ℕ) → i < result → later_chore spacing snapshots (behind + i) ≡ Turn }
+{
     if spacing == 0 {
         return u32::MAX;
     }
@@ -92,7 +95,15 @@ impl Gate for RunGate {
         chore_at(self.opening.as_slice(), self.spacing, self.snapshots, turn)
     }
 
-    fn turns_from(&self, turn: u32) -> u32 {
+    fn next_turns(&mut self, turn: u32, most: u32) -> u32 {
+        let given = most.min(self.turns_from(turn));
+        self.count = u64::from(turn) + u64::from(given);
+        given
+    }
+
+    fn turns_from(&self, turn: u32) -> u32
+        ensures { (i : ℕ) → i < result → chore_at (told_of self.now) (turn + i) ≡ Turn }
+    {
         let at = turn as usize;
         let opening = self.opening.len();
         if at < opening {

@@ -1,5 +1,5 @@
 -- What was done, one after the other.
-use Rattle.std.proofs.Common.{◌≡◌, ℕ, ◌+◌, ◌<◌, List, [], ◌∷◌, ◌++◌, length, All, refl, sym, ap, ◌∙◌, subst, append_assoc, add-one, take, get_or, length-append}
+use Rattle.std.proofs.Common.{◌≡◌, ℕ, zero, suc, ◌+◌, ◌<◌, arith, replicate, List, [], ◌∷◌, ◌++◌, length, All, refl, sym, ap, ◌∙◌, subst, append_assoc, add-one, take, get_or, length-append}
 use Rattle.std.proofs.Math.Seq.{take-suc}
 use Rattle.std.proofs.lemmas.List.{append-nil}
 use Rattle.std.proofs.lemmas.List.Elements.{All-push}
@@ -44,6 +44,14 @@ did_more P net xs ys x a m b more p q =
 
 pub did_of : {X : Type 0} → (P : Setting → X → Stage) (net : Plan) (xs ys : List X) (a b : Seen) → xs ≡ ys → Did (λ g. Each (P g) xs) net a b → Did (λ g. Each (P g) ys) net a b
 did_of P net xs ys a b same d = subst (λ k. Did (λ g. Each (P g) k) net a b) same d
+
+-- the same once more, so many times, if it changes nothing
+pub did_again : {X : Type 0} → (P : Setting → X → Stage) (net : Plan) (xs : List X) (x : X) (n : ℕ) (a b : Seen) → Did (λ g. Each (P g) xs) net a b → (0 < n → Did (λ g. P g x) net b b)
+    → Did (λ g. Each (P g) (xs ++ replicate n x)) net a b
+did_again P net xs x zero a b p q = did_of P net xs (xs ++ []) a b (sym (append-nil xs)) p
+did_again P net xs x (suc n) a b p q =
+    did_of P net ((xs ++ x ∷ []) ++ replicate n x) (xs ++ replicate (suc n) x) a b (append_assoc xs (x ∷ []) (replicate n x))
+    (did_again P net (xs ++ x ∷ []) x n a b (did_more P net xs (xs ++ x ∷ []) x a b b refl p (q (omega arith))) (λ some. q (omega arith)))
 
 -- ---- lists that grow
 

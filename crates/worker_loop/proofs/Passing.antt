@@ -1,5 +1,5 @@
 -- A Turn in which nothing is done.
-use Rattle.std.proofs.Common.{◌≡◌, ℕ, suc, arith, true, ◌&&◌, not, List, [], ◌∷◌, ◌++◌, get_or, All, refl, ap, sym, ◌∙◌, subst, None, inl}
+use Rattle.std.proofs.Common.{◌≡◌, ℕ, suc, ◌<◌, arith, true, ◌&&◌, not, List, [], ◌∷◌, ◌++◌, get_or, replicate, All, refl, ap, sym, ◌∙◌, subst, None, inl}
 use Rattle.std.specs.Prelude.{Ok, is_some}
 use Rattle.bgp_framing.specs.Held.{is_waiting}
 use Rattle.outbox.specs.declared.item.Item.{Item}
@@ -15,11 +15,13 @@ use Rattle.router_core.specs.Views.{RouterView, plain_of, sides_of, Shows, Answe
 use Rattle.world_core.proofs.Quiet.{put_idle, handle_idle, parts, none_is}
 use Rattle.worker_loop.specs.declared.worker.Worker.{Worker}
 use Rattle.worker_loop.specs.Acts.{Act, Seen}
-use Rattle.worker_loop.specs.Following.{Stage, Each, Meets, Turns}
-use Rattle.worker_loop.specs.Whole.{seen_of, MayPass, IsSameBut}
+use Rattle.worker_loop.specs.declared.chore.Chore.{Chore}
+use Rattle.worker_loop.specs.declared.chore.Chore.TheVariants.{Turn}
+use Rattle.worker_loop.specs.Following.{Stage, Each, Meets, Turns, Obeys, Follows, Did}
+use Rattle.worker_loop.specs.Whole.{seen_of, MayPass, IsLaterWorker, IsSameBut}
 use Rattle.worker_loop.proofs.Acting.{Rests, does_none}
 use Rattle.worker_loop.proofs.Trying.{put_none, call_nothing, offer_none}
-use Rattle.worker_loop.proofs.Chaining.{seen_same}
+use Rattle.worker_loop.proofs.Chaining.{did_at, did_of, did_again, seen_same, obeys_of}
 
 still : (a : Seen) → Rests a a
 still a = record { put = refl; taken = refl; room = refl; made = refl }
@@ -66,13 +68,21 @@ turn_of_nothing g x vs a net set is quiet decides tells offers =
     let o = offer_none g u a a (ap (λ r. next_offer r.router) is ∙ offers) refl (still a) refl in
     (e.0 ++ (d.0 ++ (t.0 ++ o.0)), (a, e.0, d.0 ++ (t.0 ++ o.0), refl, e.1, (a, d.0, t.0 ++ o.0, refl, d.1, (a, t.0, o.0, refl, t.1, o.1))))
 
--- ---- a worker that was given a chore may pass as before
+-- ---- Turns that a worker passes over
 
-pub may_still : {L D G : Type 0} → (put taken : L → ℕ → List Item) (room : L → ℕ → ℕ) (made : D → List (Collected MadeOffer)) (a b : Worker L D G) → IsSameBut a b
-    → MayPass put taken room made a → MayPass put taken room made b
-may_still put taken room made a b same may = λ g net set.
-    let seen = seen_same put taken room made a b same in
-    subst (λ (s : Seen). (acts : List Act) × Turns g b.router.number b.peers.items s acts s) (sym seen)
-    (subst (λ (vs : List ℕ). (acts : List Act) × Turns g b.router.number vs (seen_of put taken room made a) acts (seen_of put taken room made a)) (sym (ap (λ p. p.items) same.peers))
-    (subst (λ (n : ℕ). (acts : List Act) × Turns g n a.peers.items (seen_of put taken room made a) acts (seen_of put taken room made a)) (sym (ap (λ r. r.number) same.router))
-    (may g (net ∙ ap (λ r. r.net) same.router) set)))
+-- where it may pass over one, it did all that its gate gave together
+pub passes_on : {L D G W : Type 0} → (put taken : L → ℕ → List Item) (room : L → ℕ → ℕ) (made : D → List (Collected MadeOffer)) (wiring : L → W) (a m b : Worker L D G)
+    (given now : List Chore) (n : ℕ) → IsLaterWorker wiring a m → IsSameBut m b → now ≡ given ++ replicate n Turn
+    → Did (λ k. Follows k a.router.number a.peers.items given) a.router.net (seen_of put taken room made a) (seen_of put taken room made m)
+    → (0 < n → MayPass put taken room made m)
+    → Did (λ k. Follows k a.router.number a.peers.items now) a.router.net (seen_of put taken room made a) (seen_of put taken room made b)
+passes_on put taken room made wiring a m b given now n later same more before may =
+    let u = a.router.number in
+    let net = a.router.net in
+    let peers = a.peers.items in
+    let first = seen_of put taken room made a in
+    let here = seen_of put taken room made m in
+    let one = λ (some : 0 < n). did_at (λ v k. Obeys k v peers Turn) net m.router.net u m.router.number here here later.net later.number
+    (obeys_of m.router.net m.router.number peers m.peers.items Turn here here later.peers (may some)) in
+    subst (λ s. Did (λ k. Follows k u peers now) net first s) (sym (seen_same put taken room made m b same))
+    (did_of (λ k x. Obeys k u peers x) net (given ++ replicate n Turn) now first here (sym more) (did_again (λ k x. Obeys k u peers x) net given Turn n first here before one))

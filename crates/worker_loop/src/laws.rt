@@ -12,8 +12,8 @@ pub fn what_follows_is_done()
     ensures { WhatFollowsIsDone }
 {}
 
-/// Events that lead a router of the network from one of its states to another are a journal of it, as the laws of runs
-/// have it. The journal leads from the first state, with whatever the router ever appended, to the other.
+/// Events that lead a router of the network from one of its states to another are a journal of that router, as the
+/// laws of runs have it. The journal leads from the first state, with whatever the router ever appended, to the other.
 pub fn acts_are_journals()
     ensures { ActsAreJournals }
 {}
@@ -27,7 +27,7 @@ pub fn stamps_rise()
 /// Each event that follows from chores is what the call of its router answers, and is a command only if one of the
 /// chores is that command.
 ///
-/// Premise: the network is one.
+/// Premise: `IsNetwork`.
 pub fn what_follows_is_called()
     ensures { WhatFollowsIsCalled }
 {

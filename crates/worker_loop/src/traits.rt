@@ -1,12 +1,13 @@
 //! What a worker works with: its gate, its pipes, and the desk at which it makes offers and waits for the others.
 
-ghost use Rattle.std.specs.Prelude.{◌≡◌, ◌<◌, ◌≤◌, ◌++◌, ◌∷◌, [], List, ℕ, length, OnOk, OnErr, IfErr, IsErr, IsTrue, IfOk, MatchOption};
+ghost use Rattle.std.specs.Prelude.{◌≡◌, ◌<◌, ◌≤◌, ◌++◌, ◌∷◌, [], List, ℕ, length, replicate, OnOk, OnErr, IfErr, IsErr, IsTrue, IfOk, MatchOption};
 ghost use Rattle.outbox.specs.declared.item.Item.{Item};
 ghost use Rattle.run_model.specs.Stamps.{Collected};
 ghost use Rattle.snap_collector.specs.Collecting.{made_by};
 ghost use Rattle.snap_marker.specs.Recordings.{MadeOffer};
 ghost use Rattle.run_model.specs.declared.stamps.TheConstants.{GREATEST_STAMP};
 ghost use Rattle.worker_loop.specs.declared.chore.Chore.{Chore};
+ghost use Rattle.worker_loop.specs.declared.chore.Chore.TheVariants.{Turn};
 ghost use Rattle.worker_loop.specs.Acts.{grown, with_offer};
 
 use crate::chore::Chore;
@@ -37,6 +38,17 @@ pub trait Gate {
     /// At least how many of its chores from a turn on are Turns, as far as it can say: for so long its worker may wait
     /// for the others. A gate that waits for another one answers 0.
     fn turns_from(&self, _turn: u32) -> u32 {
+        0
+    }
+
+    /// Gives the next chores of a worker that was given `turn` chores so far, at most so many, as long as they are
+    /// Turns, and answers how many it gave. A gate that does not say so gives none: then [`Gate::next`] gives each.
+    fn next_turns(&mut self, _turn: u32, _most: u32) -> u32
+        requires { _turn ≡ length (given self.old) }
+        ensures most { result ≤ _most }
+        ensures given { given self.new ≡ given self.old ++ replicate result Turn }
+        ensures told { told self.new ≡ told self.old }
+    {
         0
     }
 }

@@ -79,9 +79,7 @@ fn note(events: &mut Vec<WorkerEvent>, stamp: u64, event: Event)
     requires { vec_len events.old < vec_capacity events.old }
     ensures { events.new.items ≡ events.old.items ++ entry stamp event ∷ [] }
 {
-    events
-        .extend_from_slice(&[WorkerEvent { stamp, event }])
-        .unwrap();
+    events.push_reserved(WorkerEvent { stamp, event });
 }
 
 impl<'a, L: Pipes, D: Desk, G: Gate> Worker<'a, L, D, G> {
@@ -92,14 +90,14 @@ impl<'a, L: Pipes, D: Desk, G: Gate> Worker<'a, L, D, G> {
     ghost use Rattle.std.specs.Prelude.{[]};
 
     /// Does the chores that the gate gives: so many, or up to the first Stop. After each chore it tells its desk what
-    /// it did, and may wait there if it did nothing. If the desk answers that nothing comes, a Turn in which the router
-    /// has nothing to do is done without a look at the pipes.
+    /// it did, and may wait there if it did nothing. If the desk answers that nothing comes, and the router has nothing
+    /// to do, the Turns that the gate gives next together are done without a look at the pipes.
     ///
     /// Refused with [`WorkerFault::Refused`] only if the router, as it is then, has no stamp or incarnation left for a
     /// call of the last chore. Refused with [`WorkerFault::Memory`] only if the next chore was to be written down and
     /// the list of chores has no room left, or if a call of the last chore has a step due. Refused with either if an
-    /// offer waits in the router. A refused growth thus ends no turn in which nothing is due. Such a call may be of the
-    /// item that was taken last from a peer; that item is lost.
+    /// offer waits in the router. A refused growth thus ends no turn in which nothing is due. Such a call may be a
+    /// Take: its item has left the pipe then, and is lost.
     pub fn work<R: Wait>(&mut self, rt: &R, board: &D::Board, turns: u32) -> Result<(), WorkerFault>
         requires fresh { G.given self.old.gate ≡ [] }
         requires blank { self.old.journal.chores.items ≡ [] }
@@ -112,13 +110,15 @@ impl<'a, L: Pipes, D: Desk, G: Gate> Worker<'a, L, D, G> {
         ensures told { G.told self.new.gate ≡ G.told self.old.gate }
         ensures ended { IfErr result (EndsFor L.taken_from turns (G.given self.new.gate) self.new) }
     {
-        let mut passes = false;
-        for turn in 0..turns {
-            let chore = self.next_chore(rt, turn)?;
-            passes = self.one(rt, board, &chore, passes, turn + 1, turns)?;
+        let mut given = 0;
+        'chores: while given < turns {
+            let chore = self.next_chore(rt, given)?;
+            given += 1;
+            let passes = self.one(rt, board, &chore, given, turns)?;
             if let Chore::Stop = chore {
                 return Ok(());
             }
+            given += self.pass(passes, given, turns - given);
         }
         Ok(())
     }

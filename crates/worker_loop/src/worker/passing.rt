@@ -15,9 +15,10 @@ fn events_behind(events: &[WorkerEvent], before: usize) -> &[WorkerEvent] {
 }
 
 impl<'a, L: Pipes, D: Desk, G: Gate> Worker<'a, L, D, G> {
-    ghost use Rattle.std.specs.Prelude.{IsTrue, IfOk, IfErr};
+    ghost use Rattle.std.specs.Prelude.{◌≡◌, ◌<◌, ◌≤◌, ◌++◌, length, replicate, IsTrue, IfOk, IfErr};
     ghost use Rattle.worker_loop.specs.Following.{Obeys};
-    ghost use Rattle.worker_loop.specs.Whole.{DidSo, MayPass, IsSameWorker};
+    ghost use Rattle.worker_loop.specs.Whole.{DidSo, MayPass, IsSameWorker, IsSameBut};
+    ghost use Rattle.worker_loop.specs.declared.chore.Chore.TheVariants.{Turn};
     ghost use Rattle.worker_loop.specs.Ending.{EndsChore};
 
     // Whether an item waits to be put towards a peer.
@@ -38,17 +39,27 @@ impl<'a, L: Pipes, D: Desk, G: Gate> Worker<'a, L, D, G> {
         self.router.is_idle()
     }
 
-    // Lets others know that a Turn was passed over. Answers whether the next ones may be.
-    fn passed<R: Wait>(&self, rt: &R, board: &D::Board, given: u32, most: u32) -> bool {
-        let between = Between {
-            router: self.router.number(),
-            done: &[],
-            is_blocked: false,
-            given,
-            turns: self.gate.turns_from(given),
-            most,
-        };
-        self.desk.pause(rt, board, &between)
+    // Passes over the Turns that the gate gives next, at most so many, if it may, and answers how many. It writes them
+    // down: none, if there is no room for them.
+    pub(super) fn pass(&mut self, passes: bool, given: u32, most: u32) -> u32
+        requires { given ≡ length (G.given self.old.gate) }
+        ensures may { 0 < result → IsTrue passes }
+        ensures most { result ≤ most }
+        ensures given { G.given self.new.gate ≡ G.given self.old.gate ++ replicate result Turn }
+        ensures chores { self.new.journal.chores.items ≡ self.old.journal.chores.items ++ replicate result Turn }
+        ensures rest { IsSameBut self.old self.new }
+        ensures told { G.told self.new.gate ≡ G.told self.old.gate }
+    {
+        let most = most.min(self.gate.turns_from(given));
+        let chores = &mut self.journal.chores;
+        if !passes || chores.reserve(most as usize).is_err() {
+            return 0;
+        }
+        let turns = self.gate.next_turns(given, most);
+        chores
+            .resize(chores.len() + turns as usize, Chore::Turn)
+            .unwrap();
+        turns
     }
 
     // Lets others know what was done for the last of so many chores. If that was a Turn and nothing was done, it may
@@ -80,27 +91,21 @@ impl<'a, L: Pipes, D: Desk, G: Gate> Worker<'a, L, D, G> {
         is_idle && is_alone
     }
 
-    // Does the last of so many chores, or passes over it if it is a Turn, and then pauses. `passes`: whether a Turn may
-    // be passed over. Answers whether the next one may.
+    // Does the last of so many chores, and then pauses. Answers whether a Turn may be passed over next.
     pub(super) fn one<R: Wait>(
         &mut self,
         rt: &R,
         board: &D::Board,
         chore: &Chore,
-        passes: bool,
         given: u32,
         most: u32,
     ) -> Result<bool, WorkerFault>
-        requires { IsTrue passes → MayPass L.put_to L.taken_from L.room D.made self.old }
         ensures done { IfOk result (λ _. DidSo L.put_to L.taken_from L.room D.made self.old self.new
             (λ g. Obeys g self.old.router.number self.old.peers.items chore.now)) }
         ensures passes { IfOk result (λ passes. IsTrue passes → MayPass L.put_to L.taken_from L.room D.made self.new) }
         ensures same { IsSameWorker L.wiring self.old self.new }
         ensures ended { IfErr result (EndsChore L.taken_from self.new chore.now) }
     {
-        if passes && chore.is_turn() {
-            return Ok(self.passed(rt, board, given, most));
-        }
         let before = self.journal.events.len();
         self.obey(rt, board, chore)?;
         Ok(self.pause(rt, board, chore, before, given, most) && self.has_nothing_to_do())

@@ -1,19 +1,22 @@
 -- the chores given so far were done, and none of them was to stop
-use Rattle.std.proofs.Common.{◌≡◌, ◌≢◌, length, All, IsTrue}
+use Rattle.std.proofs.Common.{◌≡◌, ◌≢◌, ◌≤◌, ◌-◌, length, All}
 use Rattle.worker_loop.specs.declared.chore.Chore.TheVariants.{Stop}
 use Rattle.worker_loop.specs.Following.{Did, Follows}
-use Rattle.worker_loop.specs.Whole.{seen_of, MayPass, IsLaterWorker}
+use Rattle.worker_loop.specs.Whole.{seen_of, IsLaterWorker}
 use Rattle.worker_loop.proofs.worker.Worker.work.Given as goal
 
-abbrev pub invariant-loop-turn : goal.invariant-loop-turn
-invariant-loop-turn g l = record {
+abbrev pub decreases-chores : goal.decreases-chores
+decreases-chores g l = l.turns - l.given
+
+abbrev pub invariant-chores : goal.invariant-chores
+invariant-chores g l = record {
   follows : Did (λ k. Follows k l.fn.self.router.number l.fn.self.peers.items (g.G.Gate.given l.self.gate)) l.fn.self.router.net
       (seen_of g.L.Pipes.put_to g.L.Pipes.taken_from g.L.Pipes.room g.D.Desk.made l.fn.self)
       (seen_of g.L.Pipes.put_to g.L.Pipes.taken_from g.L.Pipes.room g.D.Desk.made l.self);
-  counted : l.turn ≡ length (g.G.Gate.given l.self.gate);
+  counted : l.given ≡ length (g.G.Gate.given l.self.gate);
+  few : l.given ≤ l.turns;
   goes_on : All (λ c. c ≢ Stop) (g.G.Gate.given l.self.gate);
   chores : l.self.journal.chores.items ≡ g.G.Gate.given l.self.gate;
   same : IsLaterWorker g.L.Pipes.wiring l.fn.self l.self;
-  passes : IsTrue l.passes → MayPass g.L.Pipes.put_to g.L.Pipes.taken_from g.L.Pipes.room g.D.Desk.made l.self;
   told : g.G.Gate.told l.self.gate ≡ g.G.Gate.told l.fn.self.gate;
 }
