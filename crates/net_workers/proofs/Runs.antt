@@ -36,7 +36,8 @@ use Rattle.worker_loop.specs.Acts.{Act, passed, journal_of, entry_of}
 use Rattle.offer_board.specs.Boards.{collected_in}
 use Rattle.worker_loop.specs.Laws.{ActsAreJournals, IsJournalTo, StampsRise, WhatFollowsIsCalled}
 use Rattle.net_workers.specs.declared.record.Worked.{Worked}
-use Rattle.net_workers.specs.Gathered.{router_of, all_events}
+use Rattle.world_core.specs.Events.{router_of}
+use Rattle.net_workers.specs.Gathered.{all_events}
 use Rattle.net_workers.specs.Ran.{Passed, IsTold, HasWorked}
 use Rattle.net_workers.specs.Called.{Orders, called_steps}
 use Rattle.net_workers.specs.Runs.{chores_of, RecordsAreRuns, RecordsKeepTheirPromises}

@@ -2,21 +2,8 @@
 use Rattle.std.specs.Prelude.{ℕ, List, [], ◌∷◌, ◌++◌}
 use Rattle.std.specs.Ordering.{nat_cmp}
 use Rattle.std.specs.List.Sorted.{IsNonDecreasingBy, IsStableByKey}
-use Rattle.world_core.specs.declared.schedule.Event.{Event}
-use Rattle.world_core.specs.declared.schedule.Event.TheVariants as event
 use Rattle.worker_loop.specs.declared.journal.WorkerEvent.{WorkerEvent}
 use Rattle.net_workers.specs.declared.record.Worked.{Worked}
-
--- the router of an event
-abbrev pub router_of : Event → ℕ
-router_of (event.Command u c) = u
-router_of (event.Tick u) = u
-router_of (event.Put u v) = u
-router_of (event.Take u v) = u
-router_of (event.Handle u v) = u
-router_of (event.Decide u) = u
-router_of (event.Advertise u) = u
-router_of (event.Offer u) = u
 
 -- the events of journals, one journal after another
 abbrev pub all_events : {G : Type 0} → List (Worked G) → List WorkerEvent

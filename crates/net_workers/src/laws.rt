@@ -23,7 +23,7 @@ struct Lines;
 
 impl JournalLines for Lines {
     ghost use Rattle.worker_loop.specs.declared.journal.WorkerEvent.{WorkerEvent};
-    ghost use Rattle.net_workers.specs.Gathered.{router_of};
+    ghost use Rattle.world_core.specs.Events.{router_of};
 
     ghost Line = { WorkerEvent };
 
@@ -38,7 +38,7 @@ struct Events;
 impl WholeLines for Events {
     ghost use Rattle.worker_loop.specs.declared.journal.WorkerEvent.{WorkerEvent};
     ghost use Rattle.worker_loop.specs.Acts.{Act, entry_of};
-    ghost use Rattle.net_workers.specs.Gathered.{router_of};
+    ghost use Rattle.world_core.specs.Events.{router_of};
 
     ghost Whole = { Act };
 
@@ -83,9 +83,9 @@ impl Routers for CalledRouters {
 /// path assignment that stays. A run of the same events passes through the cut of each snapshot whose parts all routers
 /// made.
 ///
-/// Premises: the record is one ([`crate::run_net`]), and in each direction the items that were taken are the first of those that
-/// were put, one after another; the network is one, routers choose by rank. It does not say that two threads ever ran at
-/// once, nor that anything arrives.
+/// Premises: it is a record ([`crate::run_net`]), and in each direction the items that were taken are the first of
+/// those that were put, one after another; `IsNetwork`, routers choose by rank. It does not say that two threads ever
+/// ran at once, nor that anything arrives.
 pub fn records_are_runs<G: Gate>()
     ensures runs { RecordsAreRuns G.given }
     ensures promises { RecordsKeepTheirPromises G.given }

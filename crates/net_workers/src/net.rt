@@ -220,7 +220,7 @@ where
 /// A worker ends at its first Stop, or after so many chores. Refused with [`RunFault::BadLimits`] exactly if the chores
 /// are not 1 to [`MOST_TURNS`] or there is not one gate for each router. Refused with [`RunFault::WorkerRefused`] only
 /// for the least router that has a fault, if that was a refusal. Refused with [`RunFault::BoardDiffers`] only if no
-/// worker has a fault; of that the clause speaks for some workers that were told the same. [`RunFault::Memory`] is a
+/// worker has a fault; the clause says this of some workers that were told so. [`RunFault::Memory`] is a
 /// worker's want of memory, or that of the work around them: no clause says when. After a fault the other workers go on
 /// to their own end, and nothing is handed back.
 ///
@@ -285,7 +285,7 @@ where
     ensures recorded { IfOk result
         (λ r. IsRecord G.given network.now limits.turns (passed_in r.ways.items) r.workers.items r.collector
         r.gathered.items) }
-    // Every record is one of a run of the network, in which UPDATEs passed in order and whose snapshots can be believed.
+    // Every record is that of a run of the network, in which UPDATEs passed in order and whose snapshots can be believed.
     ensures promises { IfOk result
         (λ r. RunKeepsPromises network.now (passed_in r.ways.items) r.workers.items r.collector r.gathered.items) }
 {

@@ -4,8 +4,8 @@
 //! asleep, until one of these comes:
 //! - a peer has put an item towards it, or has taken one of a pipe for whose room it waits
 //! - a worker has ended
-//! - all workers sleep: then those go on that have a chore before them which is no Turn, through their Turns to it; where
-//!   none has one nothing is to come, and all go on to their last chore
+//! - all workers sleep: then each that has a chore before it which is no Turn goes on, through its Turns to that chore;
+//!   if none has one nothing is to come, and all go on to their last chore
 //! - another worker did something behind as many chores as stand in front of that chore
 //! - no worker did anything for a second: from then on none sleeps
 //!

@@ -14,7 +14,7 @@ use run_cuts::laws::runs_pass_through_snapshots;
 /// paths of the one stable assignment (`one`). This holds of the runs that a world stands at the end of (`worlds`), and
 /// of the run of a record of threads (`records`).
 ///
-/// Premises: the network is one, routers choose by rank, the hold time fits an OPEN; the parts are all stable
+/// Premises: `IsNetwork`, routers choose by rank, the hold time fits an OPEN; the parts are all stable
 /// assignments (`IsEveryStable`). It does not say that a snapshot is ever settled.
 pub fn settled_are_listed<G: Gate>()
     ensures runs { RunsSettleInListed }
