@@ -47,34 +47,40 @@ const MOST_CHOICES: u32 = 1_000;
 // The most steps of the search of a dispute if `--steps` does not name them.
 const STEPS: u32 = 10_000_000;
 
+// The arguments that are numbers, each with how it is shown.
+static NUMBERS: [(&str, &str); 8] = [
+    ("peer", "--peer <AS>"),
+    ("asn", "--asn <4>"),
+    ("number", "<S>"),
+    ("router", "<U>"),
+    ("most", "--most <N>"),
+    ("steps", "--steps <N>"),
+    ("turns", "--turns <N>"),
+    ("snapshots", "--snapshots <K>"),
+];
+
 // Whether all octets are decimal digits.
 fn are_digits(text: &[u8]) -> bool
     ensures { result ≡ list_all is_digit text.now }
 {
-    let mut are_digits = true;
-    for octet in text {
-        are_digits = are_digits & (b'0' <= *octet) & (*octet <= b'9');
-    }
-    are_digits
+    text.iter().all(|octet| octet.is_ascii_digit())
 }
 
-// The complaint about a sign before a number, if it has one.
-fn sign_of(
-    alloc: Global,
-    found: &ArgMatches,
-    id: &str,
-    shown: &str,
-) -> Result<Option<String>, AllocError> {
-    match found.get_str(id) {
-        Some(number) if !are_digits(number.as_bytes()) => {
-            let text = format!(in alloc;
-                "error: invalid value for '{shown}': a number is decimal digits alone\n\n\
-                For more information, try '--help'.\n"
-            )?;
-            Ok(Some(text))
+// The complaint about the first number that has a sign before it, if one has.
+fn sign_of(alloc: Global, found: &ArgMatches) -> Result<Option<String>, AllocError> {
+    for (id, shown) in &NUMBERS {
+        match found.get_str(id) {
+            Some(number) if !are_digits(number.as_bytes()) => {
+                let text = format!(in alloc;
+                    "error: invalid value for '{shown}': a number is decimal digits alone\n\n\
+                    For more information, try '--help'.\n"
+                )?;
+                return Ok(Some(text));
+            }
+            Some(_) | None => {}
         }
-        Some(_) | None => Ok(None),
     }
+    Ok(None)
 }
 
 // The complaint about a speaker's number that is above those of a width.
@@ -88,12 +94,6 @@ fn above(alloc: Global, width: Width, peer: u32) -> Result<String, AllocError> {
 }
 
 fn asked_decode(alloc: Global, found: &ArgMatches) -> Result<Asked, AllocError> {
-    if let Some(text) = sign_of(alloc, found, "peer", "--peer <AS>")? {
-        return Ok(Asked::Text(text, USAGE));
-    }
-    if let Some(text) = sign_of(alloc, found, "asn", "--asn <4>")? {
-        return Ok(Asked::Text(text, USAGE));
-    }
     let width = match found.get_one::<u32>("asn") {
         Some(_) => Width::Four,
         None => Width::Two,
@@ -111,98 +111,62 @@ fn asked_decode(alloc: Global, found: &ArgMatches) -> Result<Asked, AllocError> 
     }
 }
 
-fn asked_cut(alloc: Global, found: &ArgMatches) -> Result<Asked, AllocError> {
-    if let Some(text) = sign_of(alloc, found, "number", "<S>")? {
-        return Ok(Asked::Text(text, USAGE));
-    }
-    match found.get_one::<u32>("number") {
-        Some(number) => Ok(Asked::Task(Task::Cut(number))),
-        // The words were refused if they lack it.
+// What words ask for that name a number. The words were refused if they lack it.
+fn asked_number(alloc: Global, task: Option<Task>, what: &str) -> Result<Asked, AllocError> {
+    match task {
+        Some(task) => Ok(Asked::Task(task)),
         None => {
-            let text = format!(in alloc; "error: the number of a snapshot is missing\n")?;
+            let text = format!(in alloc; "error: the number of a {what} is missing\n")?;
             Ok(Asked::Text(text, USAGE))
         }
     }
 }
 
-fn asked_why(alloc: Global, found: &ArgMatches) -> Result<Asked, AllocError> {
-    if let Some(text) = sign_of(alloc, found, "router", "<U>")? {
-        return Ok(Asked::Text(text, USAGE));
-    }
-    match found.get_one::<u32>("router") {
-        Some(number) => Ok(Asked::Task(Task::Why(number))),
-        // The words were refused if they lack it.
-        None => {
-            let text = format!(in alloc; "error: the number of a router is missing\n")?;
-            Ok(Asked::Text(text, USAGE))
-        }
-    }
-}
-
-fn asked_stable(alloc: Global, found: &ArgMatches) -> Result<Asked, AllocError> {
-    if let Some(text) = sign_of(alloc, found, "most", "--most <N>")? {
-        return Ok(Asked::Text(text, USAGE));
-    }
-    if let Some(text) = sign_of(alloc, found, "steps", "--steps <N>")? {
-        return Ok(Asked::Text(text, USAGE));
-    }
+fn search_limits(found: &ArgMatches) -> SearchLimits {
     let most = found.get_one::<u32>("most").unwrap_or(MOST_CHOICES);
     let steps = found.get_one::<u32>("steps").unwrap_or(STEPS);
-    Ok(Asked::Task(Task::Stable(SearchLimits {
+    SearchLimits {
         most: most as usize,
         steps: u64::from(steps),
-    })))
+    }
 }
 
-// The options of a run in threads, or the complaint about the words.
-fn run_options(
-    alloc: Global,
-    found: &ArgMatches,
-) -> Result<Result<RunOptions, String>, AllocError> {
-    if let Some(text) = sign_of(alloc, found, "turns", "--turns <N>")? {
-        return Ok(Err(text));
-    }
-    if let Some(text) = sign_of(alloc, found, "snapshots", "--snapshots <K>")? {
-        return Ok(Err(text));
-    }
-    Ok(Ok(RunOptions {
+fn run_options(found: &ArgMatches) -> RunOptions {
+    RunOptions {
         turns: found.get_one::<u32>("turns").unwrap_or(TURNS),
         snapshots: found.get_one::<u32>("snapshots").unwrap_or(SNAPSHOTS),
-    }))
-}
-
-fn asked_run(alloc: Global, found: &ArgMatches) -> Result<Asked, AllocError> {
-    match run_options(alloc, found)? {
-        Ok(options) => Ok(Asked::Threads(ThreadTask::Run(options))),
-        Err(text) => Ok(Asked::Text(text, USAGE)),
     }
 }
 
-fn asked_record(alloc: Global, found: &ArgMatches) -> Result<Asked, AllocError> {
-    match run_options(alloc, found)? {
-        Ok(options) => Ok(Asked::Threads(ThreadTask::Record(options))),
-        Err(text) => Ok(Asked::Text(text, USAGE)),
-    }
+// An argument that is a number from 1 on.
+fn number_arg<'a>(alloc: Global, id: &'a str, name: &'a str, help: &'a str) -> Arg<'a> {
+    Arg::new(alloc, id)
+        .value_name(name)
+        .value_parser(clap::value_parser!(u32).range(1..))
+        .help(help)
+}
+
+// A word behind the program's name.
+fn word_command<'a>(alloc: Global, name: &'a str, about: &'a str, help: &'a str) -> Command<'a> {
+    Command::new(alloc, name).about(about).after_help(help)
 }
 
 fn decode_command<'a>(alloc: Global) -> Result<Command<'a>, AllocError> {
-    let peer = Arg::new(alloc, "peer")
-        .long("peer")
-        .value_name("AS")
-        .value_parser(clap::value_parser!(u32).range(1..))
-        .help(
-            "The speaker's number, 1 to 65535, or to 4294967295 with --asn 4, that its messages are \
-            checked against",
-        );
+    let peer = number_arg(
+        alloc,
+        "peer",
+        "AS",
+        "The speaker's number, 1 to 65535, or to 4294967295 with --asn 4, that its messages are \
+        checked against",
+    );
     let asn = Arg::new(alloc, "asn")
         .long("asn")
         .value_name("4")
         .value_parser(clap::value_parser!(u32).range(4..5))
         .help("AS numbers have four octets: both speakers said capability 65 (RFC 6793)");
-    Command::new(alloc, "decode")
-        .about("Prints the messages of a stream in hex")
-        .after_help(DECODE_HELP)
-        .arg(peer)?
+    let about = "Prints the messages of a stream in hex";
+    word_command(alloc, "decode", about, DECODE_HELP)
+        .arg(peer.long("peer"))?
         .arg(asn)
 }
 
@@ -211,61 +175,37 @@ fn trace_command<'a>(alloc: Global) -> Result<Command<'a>, AllocError> {
         .long("octets")
         .action(ArgAction::SetTrue)
         .help("Say what is sent in hex, too, as 'decode' takes it");
-    Command::new(alloc, "trace")
-        .about("Plays a schedule, and prints the run as a schedule of its events")
-        .after_help(TRACE_HELP)
-        .arg(octets)
+    let about = "Plays a schedule, and prints the run as a schedule of its events";
+    word_command(alloc, "trace", about, TRACE_HELP).arg(octets)
 }
 
 fn cut_command<'a>(alloc: Global) -> Result<Command<'a>, AllocError> {
-    let number = Arg::new(alloc, "number")
-        .value_name("S")
-        .required(true)
-        .value_parser(clap::value_parser!(u32).range(1..))
-        .help("The number of the snapshot, 1 to 4294967295");
-    Command::new(alloc, "cut")
-        .about("Plays a schedule, and prints the cut of one of its snapshots")
-        .after_help(CUT_HELP)
-        .arg(number)
+    let help = "The number of the snapshot, 1 to 4294967295";
+    let number = number_arg(alloc, "number", "S", help).required(true);
+    let about = "Plays a schedule, and prints the cut of one of its snapshots";
+    word_command(alloc, "cut", about, CUT_HELP).arg(number)
 }
 
 fn why_command<'a>(alloc: Global) -> Result<Command<'a>, AllocError> {
-    let router = Arg::new(alloc, "router")
-        .value_name("U")
-        .required(true)
-        .value_parser(clap::value_parser!(u32).range(1..))
-        .help("The number of the router, 1 to 4294967295");
-    Command::new(alloc, "why")
-        .about("Plays a schedule, and prints what one of its routers knows")
-        .after_help(WHY_HELP)
-        .arg(router)
+    let help = "The number of the router, 1 to 4294967295";
+    let router = number_arg(alloc, "router", "U", help).required(true);
+    let about = "Plays a schedule, and prints what one of its routers knows";
+    word_command(alloc, "why", about, WHY_HELP).arg(router)
 }
 
 fn stable_command<'a>(alloc: Global) -> Result<Command<'a>, AllocError> {
-    let most = Arg::new(alloc, "most")
-        .long("most")
-        .value_name("N")
-        .value_parser(clap::value_parser!(u32).range(1..))
-        .help("The most choices of a dispute, 1 to 4294967295 [default: 1000]");
-    let steps = Arg::new(alloc, "steps")
-        .long("steps")
-        .value_name("N")
-        .value_parser(clap::value_parser!(u32).range(1..))
-        .help("The most steps of the search of a dispute, 1 to 4294967295 [default: 10000000]");
-    Command::new(alloc, "stable")
-        .about("Lists all stable assignments of a network")
-        .after_help(STABLE_HELP)
+    let help = "The most choices of a dispute, 1 to 4294967295 [default: 1000]";
+    let most = number_arg(alloc, "most", "N", help).long("most");
+    let help = "The most steps of the search of a dispute, 1 to 4294967295 [default: 10000000]";
+    let steps = number_arg(alloc, "steps", "N", help).long("steps");
+    let about = "Lists all stable assignments of a network";
+    word_command(alloc, "stable", about, STABLE_HELP)
         .arg(most)?
         .arg(steps)
 }
 
-// A word that runs a network in threads.
-fn threads_command<'a>(
-    alloc: Global,
-    name: &'a str,
-    about: &'a str,
-    help: &'a str,
-) -> Result<Command<'a>, AllocError> {
+// A word that runs a network in threads, with its options.
+fn threads_command<'a>(alloc: Global, word: Command<'a>) -> Result<Command<'a>, AllocError> {
     let turns = Arg::new(alloc, "turns")
         .long("turns")
         .value_name("N")
@@ -276,40 +216,23 @@ fn threads_command<'a>(
         .value_name("K")
         .value_parser(clap::value_parser!(u32).range(1..=i64::from(MOST_SNAPSHOTS)))
         .help("The snapshots that are taken, 1 to 1000 [default: 20]");
-    Command::new(alloc, name)
-        .about(about)
-        .after_help(help)
-        .arg(turns)?
-        .arg(snapshots)
-}
-
-fn run_command<'a>(alloc: Global) -> Result<Command<'a>, AllocError> {
-    threads_command(alloc, "run", "Runs a network in threads", RUN_HELP)
-}
-
-fn record_command<'a>(alloc: Global) -> Result<Command<'a>, AllocError> {
-    threads_command(
-        alloc,
-        "record",
-        "Runs a network in threads, and prints what they did as a schedule",
-        RECORD_HELP,
-    )
+    word.arg(turns)?.arg(snapshots)
 }
 
 // The words that the program takes.
 fn command<'a>(alloc: Global) -> Result<Command<'a>, AllocError> {
-    let check = Command::new(alloc, "check")
-        .about("Says whether an assignment of paths is stable")
-        .after_help(CHECK_HELP);
-    let play = Command::new(alloc, "play")
-        .about("Plays a schedule of a network's routers")
-        .after_help(PLAY_HELP);
-    Command::new(alloc, "bgpnet")
-        .about(
-            "Decodes BGP-4 messages, says whether paths are a stable assignment, lists all that are, \
-            plays schedules, runs networks",
-        )
-        .after_help(TOP_HELP)
+    let about = "Says whether an assignment of paths is stable";
+    let check = word_command(alloc, "check", about, CHECK_HELP);
+    let about = "Plays a schedule of a network's routers";
+    let play = word_command(alloc, "play", about, PLAY_HELP);
+    let about = "Runs a network in threads";
+    let run = word_command(alloc, "run", about, RUN_HELP);
+    let about = "Runs a network in threads, and prints what they did as a schedule";
+    let record = word_command(alloc, "record", about, RECORD_HELP);
+    let about =
+        "Decodes BGP-4 messages, says whether paths are a stable assignment, lists all that are, \
+        plays schedules, runs networks";
+    word_command(alloc, "bgpnet", about, TOP_HELP)
         .version(VERSION)
         .subcommand_required(true)
         .subcommand(decode_command(alloc)?)?
@@ -319,39 +242,40 @@ fn command<'a>(alloc: Global) -> Result<Command<'a>, AllocError> {
         .subcommand(trace_command(alloc)?)?
         .subcommand(cut_command(alloc)?)?
         .subcommand(why_command(alloc)?)?
-        .subcommand(run_command(alloc)?)?
-        .subcommand(record_command(alloc)?)
+        .subcommand(threads_command(alloc, run)?)?
+        .subcommand(threads_command(alloc, record)?)
 }
 
 // The task or text that accepted words ask for.
 fn asked_by(alloc: Global, matches: &ArgMatches) -> Result<Asked, AllocError> {
-    if matches.subcommand_matches("play").is_some() {
-        return Ok(Asked::Task(Task::Play));
+    let Some((word, found)) = matches.subcommand() else {
+        return Ok(Asked::Task(Task::Decode(NOBODY)));
+    };
+    if let Some(text) = sign_of(alloc, found)? {
+        return Ok(Asked::Text(text, USAGE));
     }
-    if let Some(found) = matches.subcommand_matches("trace") {
-        return Ok(Asked::Task(Task::Trace(found.get_flag("octets"))));
-    }
-    if matches.subcommand_matches("check").is_some() {
-        return Ok(Asked::Task(Task::Check));
-    }
-    if let Some(found) = matches.subcommand_matches("stable") {
-        return asked_stable(alloc, found);
-    }
-    if let Some(found) = matches.subcommand_matches("cut") {
-        return asked_cut(alloc, found);
-    }
-    if let Some(found) = matches.subcommand_matches("why") {
-        return asked_why(alloc, found);
-    }
-    if let Some(found) = matches.subcommand_matches("run") {
-        return asked_run(alloc, found);
-    }
-    if let Some(found) = matches.subcommand_matches("record") {
-        return asked_record(alloc, found);
-    }
-    match matches.subcommand_matches("decode") {
-        Some(found) => asked_decode(alloc, found),
-        None => Ok(Asked::Task(Task::Decode(NOBODY))),
+    match word.as_bytes() {
+        b"check" => Ok(Asked::Task(Task::Check)),
+        b"stable" => Ok(Asked::Task(Task::Stable(search_limits(found)))),
+        b"play" => Ok(Asked::Task(Task::Play)),
+        b"trace" => Ok(Asked::Task(Task::Trace(found.get_flag("octets")))),
+        b"cut" => asked_number(
+            alloc,
+            found
+                .get_one::<u32>("number")
+                .map(|number| Task::Cut(number)),
+            "snapshot",
+        ),
+        b"why" => asked_number(
+            alloc,
+            found
+                .get_one::<u32>("router")
+                .map(|router| Task::Why(router)),
+            "router",
+        ),
+        b"run" => Ok(Asked::Threads(ThreadTask::Run(run_options(found)))),
+        b"record" => Ok(Asked::Threads(ThreadTask::Record(run_options(found)))),
+        _ => asked_decode(alloc, found),
     }
 }
 
