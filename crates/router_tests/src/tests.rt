@@ -25,7 +25,7 @@ mod whole;
 mod wide;
 
 use beginnings::Beginning;
-use steps::{Named, Step, plays, prefix};
+use steps::{Named, Step, plays_all, prefix};
 
 // Routers and networks are left, not dropped: each way out of a function that drops them is proved with the drop
 // of all that they hold.
@@ -96,40 +96,50 @@ fn router(alloc: Global, net: &Network, number: Asn) -> Result<Router<'_>, Fail>
     Ok(Router::new(alloc, net, number)?)
 }
 
-// The place of the first step of a script that does not go as it says; the steps that come first have to go.
+// The part of a script, and the place in it, of the first step that does not go as it says; the steps that come first
+// have to go.
 fn plays_behind(
     alloc: Global,
     router: &mut Router<'_>,
-    first: &[Step<'_>],
-    script: &[Step<'_>],
-) -> Result<Option<usize>, Fail> {
-    if plays(alloc, router, first).is_some() {
+    first: &[&[Step<'_>]],
+    script: &[&[Step<'_>]],
+) -> Result<Option<(usize, usize)>, Fail> {
+    if plays_all(alloc, router, first).is_some() {
         return Err("what comes before the script goes".into());
     }
-    Ok(plays(alloc, router, script))
+    Ok(plays_all(alloc, router, script))
 }
 
 fn plays_in(
     alloc: Global,
     net: &Network,
     from: &Beginning,
-    script: &[Step<'_>],
-) -> Result<Option<usize>, Fail> {
+    script: &[&[Step<'_>]],
+) -> Result<Option<(usize, usize)>, Fail> {
     let mut router = router(alloc, net, from.number)?;
     let outcome = plays_behind(alloc, &mut router, from.first, script);
     forget(router);
     outcome
 }
 
-fn plays_from(alloc: Global, from: &Beginning, script: &[Step<'_>]) -> Result<Option<usize>, Fail> {
+fn plays_from(
+    alloc: Global,
+    from: &Beginning,
+    script: &[&[Step<'_>]],
+) -> Result<Option<(usize, usize)>, Fail> {
     let net = star(alloc, from.cut, from.routers)?;
     let outcome = plays_in(alloc, &net, from, script);
     forget(net);
     outcome
 }
 
-// Each step of a script goes as it says; a failure names the first that does not.
-fn asks(rt: &impl Abort, alloc: Global, from: &Beginning, script: &[Step<'_>]) -> Result<(), Fail> {
-    assert!(rt; plays_from(alloc, from, script)? == None);
+// Each step of a script, in parts, goes as it says; a failure names the first that does not.
+fn asks(
+    rt: &impl Abort,
+    alloc: Global,
+    from: &Beginning,
+    script: &[&[Step<'_>]],
+) -> Result<(), Fail> {
+    assert_eq!(rt; plays_from(alloc, from, script)?, None);
     Ok(())
 }

@@ -90,8 +90,14 @@ pub(super) fn does_without_room(router: &mut Router<'_>, call: &Call) -> Answer 
     router.perform(call, Err(AllocError))
 }
 
-pub(super) fn takes_without_room(router: &mut Router<'_>, peer: Asn, item: &Item) -> Answer {
-    router.take(peer, item, Err(AllocError))
+// What an item is answered by a router whose caller has room for the event, or has none.
+pub(super) fn takes_with(
+    router: &mut Router<'_>,
+    peer: Asn,
+    item: &Item,
+    room: Result<(), AllocError>,
+) -> Answer {
+    router.take(peer, item, room)
 }
 
 // Lets so many seconds pass.
@@ -131,7 +137,7 @@ pub(super) fn does_either_way(router: &mut Router<'_>, call: &Call) -> bool {
 pub(super) fn takes_either_way(router: &mut Router<'_>, peer: Asn, item: &Item) -> bool {
     let last = stamp(router);
     let held = !may_take(router, peer);
-    let without = takes_without_room(router, peer, item);
+    let without = takes_with(router, peer, item, Err(AllocError));
     let stays = stamp(router) == last;
     let answer = takes_item(router, peer, item);
     let refused = answer == Err(RouterError::Held { peer });

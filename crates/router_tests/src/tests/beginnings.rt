@@ -1,114 +1,100 @@
 //! How scripts begin.
 
 use super::answers::DID;
-use super::items::Sent;
-use super::steps::{ALIVE, Asked, OPEN_OF_ONE, OPEN_OF_THREE, OPEN_OF_TWO, Step};
+use super::items::Sent::{Dial, Says};
+use super::steps::Asked::{Advertise, Decide, Originate, Start};
+use super::steps::Named::Least;
+use super::steps::Step::{Does, Drains, Hears, Puts, Takes};
+use super::steps::{ALIVE, OPEN_OF_ONE, OPEN_OF_THREE, OPEN_OF_TWO, Step};
 use ranked_policy::Asn;
 
-// The router of a network that plays, and the steps that come before its script.
+// The router of a network that plays, and the steps that come before its script, part by part.
 #[derive(Clone, Copy)]
 pub(super) struct Beginning {
     pub(super) cut: usize,
     // How many routers the network has, and which plays.
     pub(super) routers: u32,
     pub(super) number: Asn,
-    pub(super) first: &'static [Step<'static>],
+    pub(super) first: &'static [&'static [Step<'static>]],
 }
 
-// Router 1 of two.
-pub(super) static FRESH: Beginning = Beginning {
+// Router 1 of two, of which nothing was asked; each other beginning says in what it differs.
+pub(super) const NEW: Beginning = Beginning {
     cut: 4096,
     routers: 2,
     number: 1,
     first: &[],
 };
+
+pub(super) static FRESH: Beginning = NEW;
 
 // Router 2 of two.
-pub(super) static FRESH_TWO: Beginning = Beginning {
-    cut: 4096,
-    routers: 2,
-    number: 2,
-    first: &[],
-};
+pub(super) static FRESH_TWO: Beginning = Beginning { number: 2, ..NEW };
 
-// Router 1 of two, which puts pieces of at most 18 octets.
-pub(super) static FRESH_AT_18: Beginning = Beginning {
-    cut: 18,
-    routers: 2,
-    number: 1,
-    first: &[],
-};
+// It puts pieces of at most 18 octets.
+pub(super) static FRESH_AT_18: Beginning = Beginning { cut: 18, ..NEW };
 
 // Router 1 of three.
-pub(super) static FRESH_OF_THREE: Beginning = Beginning {
-    cut: 4096,
-    routers: 3,
-    number: 1,
-    first: &[],
-};
+pub(super) static FRESH_OF_THREE: Beginning = Beginning { routers: 3, ..NEW };
 
-pub(super) static ALONE: Beginning = Beginning {
-    cut: 4096,
-    routers: 1,
-    number: 1,
-    first: &[],
-};
+pub(super) static ALONE: Beginning = Beginning { routers: 1, ..NEW };
 
-// Its session with 2 started, and its Dial of 1 was answered.
+const JOINS_TWO: &[Step<'static>] = &[Does(Start(2), DID), Takes(2, 0, Dial(1), DID)];
+
+const HEARS_TWO: &[Step<'static>] = &[
+    Hears(2, Says(1, &[OPEN_OF_TWO])),
+    Hears(2, Says(1, &[ALIVE])),
+];
+
+const MEETS_THREE: &[Step<'static>] = &[
+    Does(Start(3), DID),
+    Takes(3, 0, Dial(1), DID),
+    Hears(3, Says(1, &[OPEN_OF_THREE])),
+    Hears(3, Says(1, &[ALIVE])),
+];
+
+const DRAINS_BOTH: &[Step<'static>] = &[Drains(2), Drains(3)];
+
+const TELLS_BOTH: &[Step<'static>] = &[
+    Does(Originate(Least), DID),
+    Does(Decide, DID),
+    Does(Advertise, DID),
+    Does(Advertise, DID),
+];
+
+// The session with 2 started, and its Dial of 1 was answered.
 pub(super) static JOINED: Beginning = Beginning {
-    cut: 4096,
-    routers: 2,
-    number: 1,
-    first: &[
-        Step::Does(Asked::Start(2), DID),
-        Step::Takes(2, 0, Sent::Dial(1), DID),
-    ],
+    first: &[JOINS_TWO],
+    ..NEW
 };
 
 // Then came the OPEN and the KEEPALIVE of 2, and the KEEPALIVE that answers was put behind the OPEN.
 pub(super) static ESTABLISHED: Beginning = Beginning {
-    cut: 4096,
-    routers: 2,
-    number: 1,
     first: &[
-        Step::Does(Asked::Start(2), DID),
-        Step::Takes(2, 0, Sent::Dial(1), DID),
-        Step::Hears(2, Sent::Says(1, &[OPEN_OF_TWO])),
-        Step::Hears(2, Sent::Says(1, &[ALIVE])),
-        Step::Puts(2, Sent::Dial(1)),
-        Step::Puts(2, Sent::Says(1, &[OPEN_OF_ONE, ALIVE])),
+        JOINS_TWO,
+        HEARS_TWO,
+        &[Puts(2, Dial(1)), Puts(2, Says(1, &[OPEN_OF_ONE, ALIVE]))],
     ],
+    ..NEW
 };
 
 // Router 1 of three, whose session with 3 alone is Established, and which was put all that it said there.
 pub(super) static UP_TO_THREE: Beginning = Beginning {
-    cut: 4096,
     routers: 3,
-    number: 1,
-    first: &[
-        Step::Does(Asked::Start(3), DID),
-        Step::Takes(3, 0, Sent::Dial(1), DID),
-        Step::Hears(3, Sent::Says(1, &[OPEN_OF_THREE])),
-        Step::Hears(3, Sent::Says(1, &[ALIVE])),
-        Step::Drains(3),
-    ],
+    first: &[MEETS_THREE, &[Drains(3)]],
+    ..NEW
 };
 
 // Router 1 of three, whose sessions with 2 and 3 are Established, and which was put all that it said.
 pub(super) static READY: Beginning = Beginning {
-    cut: 4096,
     routers: 3,
-    number: 1,
-    first: &[
-        Step::Does(Asked::Start(2), DID),
-        Step::Takes(2, 0, Sent::Dial(1), DID),
-        Step::Hears(2, Sent::Says(1, &[OPEN_OF_TWO])),
-        Step::Hears(2, Sent::Says(1, &[ALIVE])),
-        Step::Does(Asked::Start(3), DID),
-        Step::Takes(3, 0, Sent::Dial(1), DID),
-        Step::Hears(3, Sent::Says(1, &[OPEN_OF_THREE])),
-        Step::Hears(3, Sent::Says(1, &[ALIVE])),
-        Step::Drains(2),
-        Step::Drains(3),
-    ],
+    first: &[JOINS_TWO, HEARS_TWO, MEETS_THREE, DRAINS_BOTH],
+    ..NEW
+};
+
+// Then it originated 10.0.0.0/8, kept its path, and told it to both.
+pub(super) static TOLD: Beginning = Beginning {
+    routers: 3,
+    first: &[JOINS_TWO, HEARS_TWO, MEETS_THREE, DRAINS_BOTH, TELLS_BOTH],
+    ..NEW
 };

@@ -24,7 +24,7 @@ fn the_least_prefix_is_decided_first(rt: HostRuntime) -> Result<(), Fail> {
         Keeps(Greatest, &[1]),
         Does(Decide, NOTHING),
     ];
-    asks(&rt, rt.alloc(), &FRESH_OF_THREE, SCRIPT)
+    asks(&rt, rt.alloc(), &FRESH_OF_THREE, &[SCRIPT])
 }
 
 // At 65,536 octets a peer is told nothing more, until some of them were put.
@@ -40,7 +40,7 @@ fn a_full_outbox_blocks(rt: HostRuntime) -> Result<(), Fail> {
         Drains(2),
         Does(Advertise, DID),
     ];
-    asks(&rt, rt.alloc(), &FRESH, SCRIPT)
+    asks(&rt, rt.alloc(), &FRESH, &[SCRIPT])
 }
 
 // Router 2 is told first, then router 3, then nobody.
@@ -59,7 +59,7 @@ fn the_least_peer_is_told_first(rt: HostRuntime) -> Result<(), Fail> {
         Waits(3),
         Does(Advertise, NOTHING),
     ];
-    asks(&rt, rt.alloc(), &READY, SCRIPT)
+    asks(&rt, rt.alloc(), &READY, &[SCRIPT])
 }
 
 // A prefix is originated once, its path is set once, and nobody is there to be told.
@@ -79,6 +79,6 @@ static DOES_NOT_ORIGINATE: &[Step<'static>] = &[Does(
 
 #[test]
 fn what_is_originated_is_not_originated_again(rt: HostRuntime) -> Result<(), Fail> {
-    asks(&rt, rt.alloc(), &FRESH, ORIGINATES_ONCE)?;
-    asks(&rt, rt.alloc(), &FRESH_TWO, DOES_NOT_ORIGINATE)
+    asks(&rt, rt.alloc(), &FRESH, &[ORIGINATES_ONCE])?;
+    asks(&rt, rt.alloc(), &FRESH_TWO, &[DOES_NOT_ORIGINATE])
 }

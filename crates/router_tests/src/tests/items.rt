@@ -1,6 +1,6 @@
 //! Items that a peer puts, and those that come out.
 
-use super::answers::{Answer, DID, handles, puts_next, takes_item, takes_without_room};
+use super::answers::{Answer, DID, handles, puts_next, takes_with};
 use ranked_policy::Asn;
 use router_core::{Item, PieceOctets, Router, What};
 use std::alloc::{AllocError, Global};
@@ -122,37 +122,23 @@ pub(super) fn made(alloc: Global, stamp: u64, sent: &Sent<'_>) -> Option<Item> {
     Some(Item { stamp, what })
 }
 
-// Whether the item of a peer is answered so.
+// Whether the item of a peer is answered so, where the caller has room for the event, or has none.
 pub(super) fn takes(
     alloc: Global,
     router: &mut Router<'_>,
     peer: Asn,
     stamp: u64,
     sent: &Sent<'_>,
+    room: Result<(), AllocError>,
     answer: Answer,
 ) -> bool {
     match made(alloc, stamp, sent) {
-        Some(item) => takes_item(router, peer, &item) == answer,
-        None => false,
-    }
-}
-
-// Whether the item of a peer is answered so if the caller has no room.
-pub(super) fn takes_so_without_room(
-    alloc: Global,
-    router: &mut Router<'_>,
-    peer: Asn,
-    stamp: u64,
-    sent: &Sent<'_>,
-    answer: Answer,
-) -> bool {
-    match made(alloc, stamp, sent) {
-        Some(item) => takes_without_room(router, peer, &item) == answer,
+        Some(item) => takes_with(router, peer, &item, room) == answer,
         None => false,
     }
 }
 
 // Whether the item of a peer is taken, and the message that it brings is handled.
 pub(super) fn hears(alloc: Global, router: &mut Router<'_>, peer: Asn, sent: &Sent<'_>) -> bool {
-    takes(alloc, router, peer, 0, sent, DID) && handles(router, peer) == DID
+    takes(alloc, router, peer, 0, sent, Ok(()), DID) && handles(router, peer) == DID
 }

@@ -5,31 +5,23 @@ use super::beginnings::{ALONE, READY, UP_TO_THREE};
 use super::items::Sent::{Mark, Says};
 use super::offers::Offered;
 use super::steps::Asked::{Snapshot, Stop};
-use super::steps::Step::{Does, Hears, IsDrained, Offers, Puts, Takes};
+use super::steps::Step::{Does, Hears, IsDrained, Offers, Puts, PutsMarks, Takes};
 use super::steps::{UPDATE_OF_THREE, UPDATE_OF_TWO};
 use super::*;
-use snap_marker::{Cause, Lost};
+use snap_marker::Cause;
 
 const RECORDS_1: Step<'static> = Does(Snapshot(1), DID);
-
-const DOWN: Lost = Lost {
-    router: 1,
-    number: 1,
-    peer: 2,
-    epoch: 0,
-    cause: Cause::NotUp,
-};
 
 // The session with 2 is down. The markers go out all the same.
 #[test]
 fn a_session_that_is_down_loses_the_recording(rt: HostRuntime) -> Result<(), Fail> {
     static SCRIPT: &[Step<'static>] = &[
         RECORDS_1,
-        Offers(Offered::Loss(DOWN)),
+        Offers(Offered::Loss(2, 0, Cause::NotUp)),
         Puts(3, Mark(1, 1)),
         IsDrained(2),
     ];
-    asks(&rt, rt.alloc(), &UP_TO_THREE, SCRIPT)
+    asks(&rt, rt.alloc(), &UP_TO_THREE, &[SCRIPT])
 }
 
 // What 2 says behind its marker is not recorded.
@@ -44,7 +36,7 @@ fn a_channel_has_what_came_before_its_marker(rt: HostRuntime) -> Result<(), Fail
         Takes(3, 0, Mark(1, 1), DID),
         Offers(Offered::Updates(1, 0)),
     ];
-    asks(&rt, rt.alloc(), &READY, SCRIPT)
+    asks(&rt, rt.alloc(), &READY, &[SCRIPT])
 }
 
 #[test]
@@ -56,7 +48,7 @@ fn the_channel_of_the_first_marker_is_empty(rt: HostRuntime) -> Result<(), Fail>
         Takes(3, 0, Mark(1, 1), DID),
         Offers(Offered::Updates(0, 1)),
     ];
-    asks(&rt, rt.alloc(), &READY, SCRIPT)
+    asks(&rt, rt.alloc(), &READY, &[SCRIPT])
 }
 
 #[test]
@@ -68,22 +60,14 @@ fn the_last_marker_offers_the_part(rt: HostRuntime) -> Result<(), Fail> {
         Takes(2, 0, Mark(1, 7), DID),
         Offers(Offered::Part(7)),
     ];
-    asks(&rt, rt.alloc(), &READY, SCRIPT)
+    asks(&rt, rt.alloc(), &READY, &[SCRIPT])
 }
 
 #[test]
 fn a_router_without_links_offers_as_it_records(rt: HostRuntime) -> Result<(), Fail> {
     static SCRIPT: &[Step<'static>] = &[RECORDS_1, Offers(Offered::Part(1))];
-    asks(&rt, rt.alloc(), &ALONE, SCRIPT)
+    asks(&rt, rt.alloc(), &ALONE, &[SCRIPT])
 }
-
-const CLOSED: Lost = Lost {
-    router: 1,
-    number: 1,
-    peer: 3,
-    epoch: 1,
-    cause: Cause::Closed,
-};
 
 #[test]
 fn a_close_loses_the_recording(rt: HostRuntime) -> Result<(), Fail> {
@@ -91,18 +75,10 @@ fn a_close_loses_the_recording(rt: HostRuntime) -> Result<(), Fail> {
         RECORDS_1,
         Takes(2, 0, Mark(1, 1), DID),
         Does(Stop(3), DID),
-        Offers(Offered::Loss(CLOSED)),
+        Offers(Offered::Loss(3, 1, Cause::Closed)),
     ];
-    asks(&rt, rt.alloc(), &READY, SCRIPT)
+    asks(&rt, rt.alloc(), &READY, &[SCRIPT])
 }
-
-const SUPERSEDED: Lost = Lost {
-    router: 1,
-    number: 1,
-    peer: 3,
-    epoch: 1,
-    cause: Cause::Superseded,
-};
 
 // The marker of 2 came: that of 3 is the least that is missing.
 #[test]
@@ -111,9 +87,9 @@ fn a_greater_number_supersedes(rt: HostRuntime) -> Result<(), Fail> {
         RECORDS_1,
         Takes(2, 0, Mark(1, 1), DID),
         Does(Snapshot(2), DID),
-        Offers(Offered::Loss(SUPERSEDED)),
+        Offers(Offered::Loss(3, 1, Cause::Superseded)),
     ];
-    asks(&rt, rt.alloc(), &READY, SCRIPT)
+    asks(&rt, rt.alloc(), &READY, &[SCRIPT])
 }
 
 // Nothing goes out, and the recording of 3 goes on.
@@ -121,10 +97,7 @@ fn a_greater_number_supersedes(rt: HostRuntime) -> Result<(), Fail> {
 fn a_marker_of_an_old_number_is_ignored(rt: HostRuntime) -> Result<(), Fail> {
     static SCRIPT: &[Step<'static>] = &[
         Does(Snapshot(3), DID),
-        Puts(2, Mark(1, 3)),
-        Puts(3, Mark(1, 3)),
-        IsDrained(2),
-        IsDrained(3),
+        PutsMarks(3),
         Takes(2, 0, Mark(1, 2), DID),
         Takes(3, 0, Mark(1, 3), DID),
         Offers(Offered::Nothing),
@@ -132,5 +105,5 @@ fn a_marker_of_an_old_number_is_ignored(rt: HostRuntime) -> Result<(), Fail> {
         Takes(2, 0, Mark(1, 3), DID),
         Offers(Offered::Part(3)),
     ];
-    asks(&rt, rt.alloc(), &READY, SCRIPT)
+    asks(&rt, rt.alloc(), &READY, &[SCRIPT])
 }

@@ -4,7 +4,7 @@ use super::steps::{Named, prefix};
 use prefix_lanes::Prefix;
 use ranked_policy::Asn;
 use router_core::{Offer, Router};
-use snap_marker::{Channel, Lost, Part};
+use snap_marker::{Cause, Channel, Lost, Part};
 use std::mem::forget;
 
 // What a router is to offer.
@@ -19,7 +19,8 @@ pub(super) enum Offered {
     Pending(bool),
     // A part that keeps and originates this prefix alone, and names incarnation 1 of both links.
     State(Named),
-    Loss(Lost),
+    // The loss of recording 1, by the link to this peer in this incarnation.
+    Loss(Asn, u32, Cause),
 }
 
 // The part that is offered.
@@ -97,9 +98,16 @@ fn offers_state(router: &Router<'_>, named: Named) -> bool {
     }
 }
 
-fn offers_loss(router: &Router<'_>, loss: &Lost) -> bool {
+fn offers_loss(router: &Router<'_>, peer: Asn, epoch: u32, cause: Cause) -> bool {
+    let wanted = Lost {
+        router: 1,
+        number: 1,
+        peer,
+        epoch,
+        cause,
+    };
     match router.next_offer() {
-        Some(Offer::Lost(lost)) => *lost == *loss,
+        Some(Offer::Lost(lost)) => *lost == wanted,
         Some(Offer::Part(_)) | None => false,
     }
 }
@@ -111,7 +119,7 @@ pub(super) fn offers(router: &Router<'_>, offered: &Offered) -> bool {
         Offered::Updates(of_two, of_three) => offers_updates(router, *of_two, *of_three),
         Offered::Pending(pending) => offers_pending(router, *pending),
         Offered::State(named) => offers_state(router, *named),
-        Offered::Loss(loss) => offers_loss(router, loss),
+        Offered::Loss(peer, epoch, cause) => offers_loss(router, *peer, *epoch, *cause),
     }
 }
 

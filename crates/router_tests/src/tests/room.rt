@@ -35,7 +35,7 @@ fn steps_are_refused_for_want_of_room(rt: HostRuntime) -> Result<(), Fail> {
         WithoutRoom(Restart, MEMORY),
         IsDrained(2),
     ];
-    asks(&rt, rt.alloc(), &FRESH, SCRIPT)
+    asks(&rt, rt.alloc(), &FRESH, &[SCRIPT])
 }
 
 #[test]
@@ -53,7 +53,7 @@ fn with_room_they_are_done(rt: HostRuntime) -> Result<(), Fail> {
         EitherWay(Snapshot(1)),
         EitherWay(Restart),
     ];
-    asks(&rt, rt.alloc(), &FRESH, SCRIPT)
+    asks(&rt, rt.alloc(), &FRESH, &[SCRIPT])
 }
 
 #[test]
@@ -74,7 +74,7 @@ fn items_are_refused_for_want_of_room(rt: HostRuntime) -> Result<(), Fail> {
         EitherWay(Handle(2)),
         EitherWay(Handle(2)),
     ];
-    asks(&rt, rt.alloc(), &ESTABLISHED, SCRIPT)
+    asks(&rt, rt.alloc(), &ESTABLISHED, &[SCRIPT])
 }
 
 // What was not decided, or not told, waits.
@@ -94,5 +94,5 @@ fn routes_wait_for_room(rt: HostRuntime) -> Result<(), Fail> {
         Fills(Greatest),
         WithoutRoom(Advertise, Err(RouterError::Blocked { peer: 2 })),
     ];
-    asks(&rt, rt.alloc(), &ESTABLISHED, SCRIPT)
+    asks(&rt, rt.alloc(), &ESTABLISHED, &[SCRIPT])
 }

@@ -21,7 +21,7 @@ fn sessions_open(rt: HostRuntime) -> Result<(), Fail> {
         Puts(2, Says(1, &[OPEN_OF_ONE])),
         IsDrained(2),
     ];
-    asks(&rt, rt.alloc(), &FRESH, SCRIPT)
+    asks(&rt, rt.alloc(), &FRESH, &[SCRIPT])
 }
 
 // Nineteen octets whose first is no marker.
@@ -44,29 +44,33 @@ fn a_fault_in_a_header_closes(rt: HostRuntime) -> Result<(), Fail> {
         IsDrained(2),
         Does(Handle(2), NOTHING),
     ];
-    asks(&rt, rt.alloc(), &JOINED, SCRIPT)
+    asks(&rt, rt.alloc(), &JOINED, &[SCRIPT])
 }
+
+// Nothing follows the Shut, and no UPDATE was acted on. The session is Idle, where a start dials the next incarnation.
+const CLOSED: &[Step<'static>] = &[
+    Puts(2, Shut(1)),
+    IsDrained(2),
+    IsIdle(2),
+    ActedOnNothing(2),
+    Does(Start(2), DID),
+    Puts(2, Dial(2)),
+];
 
 // An OPEN that names another number than the peer's, 3, with the identifier of the peer.
 const OPEN_OF_ANOTHER: &[u8] = &[
     0x00, 0x1d, 0x01, 0x04, 0x00, 0x03, 0x00, 0x5a, 0x0a, 0x00, 0x00, 0x02, 0x00,
 ];
 
-// NOTIFICATION 2/2. Then the session is Idle, where a start dials the next incarnation.
+// NOTIFICATION 2/2.
 #[test]
 fn an_open_of_another_router_closes(rt: HostRuntime) -> Result<(), Fail> {
     static SCRIPT: &[Step<'static>] = &[
         Hears(2, Says(1, &[OPEN_OF_ANOTHER])),
         Puts(2, Dial(1)),
         Puts(2, Says(1, &[OPEN_OF_ONE, &[0x00, 0x15, 0x03, 0x02, 0x02]])),
-        Puts(2, Shut(1)),
-        IsDrained(2),
-        IsIdle(2),
-        ActedOnNothing(2),
-        Does(Start(2), DID),
-        Puts(2, Dial(2)),
     ];
-    asks(&rt, rt.alloc(), &JOINED, SCRIPT)
+    asks(&rt, rt.alloc(), &JOINED, &[SCRIPT, CLOSED])
 }
 
 // Octets of incarnation 1 are gone in incarnation 2: the OPEN there is read as if nothing had come before
@@ -85,7 +89,7 @@ fn octets_of_an_old_incarnation_are_gone(rt: HostRuntime) -> Result<(), Fail> {
         Puts(2, Says(2, &[OPEN_OF_ONE, ALIVE])),
         IsDrained(2),
     ];
-    asks(&rt, rt.alloc(), &JOINED, SCRIPT)
+    asks(&rt, rt.alloc(), &JOINED, &[SCRIPT])
 }
 
 // An UPDATE whose path begins with another number than the peer's.
@@ -94,20 +98,14 @@ const UPDATE_OF_ANOTHER: &[u8] = &[
     0x00, 0x01, 0x40, 0x03, 0x04, 0x0a, 0x00, 0x00, 0x01, 0x10, 0x0a, 0x01,
 ];
 
-// NOTIFICATION 3/11. The UPDATE is not acted on, and the session is Idle, where a start dials the next incarnation.
+// NOTIFICATION 3/11.
 #[test]
 fn an_update_of_another_router_closes(rt: HostRuntime) -> Result<(), Fail> {
     static SCRIPT: &[Step<'static>] = &[
         Hears(2, Says(1, &[UPDATE_OF_ANOTHER])),
         Puts(2, Says(1, &[&[0x00, 0x15, 0x03, 0x03, 0x0b]])),
-        Puts(2, Shut(1)),
-        IsDrained(2),
-        IsIdle(2),
-        ActedOnNothing(2),
-        Does(Start(2), DID),
-        Puts(2, Dial(2)),
     ];
-    asks(&rt, rt.alloc(), &ESTABLISHED, SCRIPT)
+    asks(&rt, rt.alloc(), &ESTABLISHED, &[SCRIPT, CLOSED])
 }
 
 // No stamp passes 2^62.
@@ -125,7 +123,7 @@ fn no_stamp_is_left(rt: HostRuntime) -> Result<(), Fail> {
         Takes(2, 0x3fff_ffff_ffff_ffff, Dial(1), DID),
         Does(Stop(2), Err(RouterError::StampEnd)),
     ];
-    asks(&rt, rt.alloc(), &FRESH, SCRIPT)
+    asks(&rt, rt.alloc(), &FRESH, &[SCRIPT])
 }
 
 // A reset closes the incarnation, and dials the next; a stop closes that.
@@ -141,5 +139,5 @@ fn a_reset_dials_anew(rt: HostRuntime) -> Result<(), Fail> {
         Puts(2, Shut(2)),
         IsDrained(2),
     ];
-    asks(&rt, rt.alloc(), &FRESH_AT_18, SCRIPT)
+    asks(&rt, rt.alloc(), &FRESH_AT_18, &[SCRIPT])
 }

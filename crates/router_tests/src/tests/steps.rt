@@ -2,13 +2,13 @@
 //! proved once; in a function of as many calls each goal has all that the calls before it ensure.
 
 use super::answers::*;
-use super::items::{Sent, drains, hears, puts, puts_at, puts_some, takes, takes_so_without_room};
+use super::items::{Sent, drains, hears, puts, puts_at, puts_some, takes};
 use super::offers::{Offered, offers, records_now};
 use prefix_lanes::Prefix;
 use ranked_policy::Asn;
 use router_core::{Call, Command, Router};
 use session_fsm::State;
-use std::alloc::Global;
+use std::alloc::{AllocError, Global};
 use std::mem::forget;
 
 // A prefix that the network names.
@@ -56,6 +56,8 @@ pub(super) enum Step<'a> {
     PutsAt(Asn, u64),
     // The next item towards a peer is octets of this incarnation.
     PutsSome(Asn, u32),
+    // Markers of this number and of incarnation 1 are put to 2 and 3, and nothing else.
+    PutsMarks(u32),
     // An item of a peer with this stamp is answered so if the caller has no room.
     TakesWithoutRoom(Asn, u64, Sent<'a>, Answer),
     // A prefix comes and goes until router 2 is told nothing more.
@@ -168,6 +170,15 @@ fn acted_on_nothing(alloc: Global, one: &Router<'_>, peer: Asn) -> bool {
     }
 }
 
+// Whether markers of this number are all that is put to 2 and 3.
+fn puts_marks(alloc: Global, one: &mut Router<'_>, number: u32) -> bool {
+    let mark = Sent::Mark(1, number);
+    puts(alloc, one, 2, &mark)
+        && puts(alloc, one, 3, &mark)
+        && is_drained(one, 2)
+        && is_drained(one, 3)
+}
+
 // Whether a step goes as it says.
 fn goes(alloc: Global, one: &mut Router<'_>, step: &Step<'_>) -> bool {
     match step {
@@ -175,13 +186,16 @@ fn goes(alloc: Global, one: &mut Router<'_>, step: &Step<'_>) -> bool {
         Step::Stays(asked, answer) => asked_so(one, *asked, Way::Stays(*answer)),
         Step::WithoutRoom(asked, answer) => asked_so(one, *asked, Way::WithoutRoom(*answer)),
         Step::EitherWay(asked) => asked_so(one, *asked, Way::EitherWay),
-        Step::Takes(peer, stamp, sent, answer) => takes(alloc, one, *peer, *stamp, sent, *answer),
+        Step::Takes(peer, stamp, sent, answer) => {
+            takes(alloc, one, *peer, *stamp, sent, Ok(()), *answer)
+        }
         Step::Hears(peer, sent) => hears(alloc, one, *peer, sent),
         Step::Puts(peer, sent) => puts(alloc, one, *peer, sent),
         Step::PutsAt(peer, stamp) => puts_at(one, *peer, *stamp),
         Step::PutsSome(peer, epoch) => puts_some(one, *peer, *epoch),
+        Step::PutsMarks(number) => puts_marks(alloc, one, *number),
         Step::TakesWithoutRoom(peer, stamp, sent, answer) => {
-            takes_so_without_room(alloc, one, *peer, *stamp, sent, *answer)
+            takes(alloc, one, *peer, *stamp, sent, Err(AllocError), *answer)
         }
         Step::Fills(named) => fills_with(one, *named),
         Step::Drains(peer) => drains(one, *peer),
@@ -197,10 +211,24 @@ fn goes(alloc: Global, one: &mut Router<'_>, step: &Step<'_>) -> bool {
 }
 
 // The place of the first step that does not.
-pub(super) fn plays(alloc: Global, one: &mut Router<'_>, script: &[Step<'_>]) -> Option<usize> {
+fn plays(alloc: Global, one: &mut Router<'_>, script: &[Step<'_>]) -> Option<usize> {
     for (at, step) in script.iter().enumerate() {
         if !goes(alloc, one, step) {
             return Some(at);
+        }
+    }
+    None
+}
+
+// The first part of a script with a step that does not, and the place in it.
+pub(super) fn plays_all(
+    alloc: Global,
+    one: &mut Router<'_>,
+    script: &[&[Step<'_>]],
+) -> Option<(usize, usize)> {
+    for (part, steps) in script.iter().enumerate() {
+        if let Some(at) = plays(alloc, one, steps) {
+            return Some((part, at));
         }
     }
     None

@@ -28,7 +28,7 @@ fn stray_items_do_nothing(rt: HostRuntime) -> Result<(), Fail> {
         Hears(2, Says(1, &[OPEN_OF_TWO])),
         Puts(2, Says(1, &[ALIVE])),
     ];
-    asks(&rt, rt.alloc(), &JOINED, SCRIPT)
+    asks(&rt, rt.alloc(), &JOINED, &[SCRIPT])
 }
 
 // The peer joins, and leaves, the greatest incarnation. What the router said then: its own Dial, and the
@@ -50,5 +50,5 @@ fn the_last_incarnation_is_not_dialled_past(rt: HostRuntime) -> Result<(), Fail>
         Stays(Tick, Err(RouterError::EpochEnd)),
         IsDrained(2),
     ];
-    asks(&rt, rt.alloc(), &FRESH, SCRIPT)
+    asks(&rt, rt.alloc(), &FRESH, &[SCRIPT])
 }

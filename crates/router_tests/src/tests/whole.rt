@@ -10,15 +10,16 @@ use super::steps::Step::{Does, Drains, IsDrained, Keeps, Puts, Seconds};
 use super::*;
 
 // A third of the hold time of 90 seconds passes: 1 says KEEPALIVE.
+const SAYS_ALIVE: &[Step<'static>] = &[
+    Seconds(29),
+    IsDrained(2),
+    Seconds(1),
+    Puts(2, Says(1, &[ALIVE])),
+];
+
 #[test]
 fn a_keepalive_goes_out_in_time(rt: HostRuntime) -> Result<(), Fail> {
-    static SCRIPT: &[Step<'static>] = &[
-        Seconds(29),
-        IsDrained(2),
-        Seconds(1),
-        Puts(2, Says(1, &[ALIVE])),
-    ];
-    asks(&rt, rt.alloc(), &ESTABLISHED, SCRIPT)
+    asks(&rt, rt.alloc(), &ESTABLISHED, &[SAYS_ALIVE])
 }
 
 // An UPDATE that is told sets the time again: 1 says KEEPALIVE a third of the hold time behind it (RFC 4271
@@ -31,12 +32,8 @@ fn an_update_puts_the_keepalive_off(rt: HostRuntime) -> Result<(), Fail> {
         Seconds(20),
         Does(Advertise, DID),
         Drains(2),
-        Seconds(29),
-        IsDrained(2),
-        Seconds(1),
-        Puts(2, Says(1, &[ALIVE])),
     ];
-    asks(&rt, rt.alloc(), &ESTABLISHED, SCRIPT)
+    asks(&rt, rt.alloc(), &ESTABLISHED, &[SCRIPT, SAYS_ALIVE])
 }
 
 // 90 seconds without a message: NOTIFICATION 4/0 behind two KEEPALIVEs, and the end of the incarnation.
@@ -47,7 +44,7 @@ fn a_silent_peer_is_left(rt: HostRuntime) -> Result<(), Fail> {
         Puts(2, Says(1, &[ALIVE, ALIVE, &[0x00, 0x15, 0x03, 0x04, 0x00]])),
         Puts(2, Shut(1)),
     ];
-    asks(&rt, rt.alloc(), &ESTABLISHED, SCRIPT)
+    asks(&rt, rt.alloc(), &ESTABLISHED, &[SCRIPT])
 }
 
 // A router that originates its prefix, keeps its path and dialled incarnation 1; after a restart it keeps and
@@ -67,5 +64,5 @@ fn a_restart_forgets_routes_and_no_incarnation(rt: HostRuntime) -> Result<(), Fa
         Puts(2, Dial(2)),
         IsDrained(2),
     ];
-    asks(&rt, rt.alloc(), &FRESH, SCRIPT)
+    asks(&rt, rt.alloc(), &FRESH, &[SCRIPT])
 }

@@ -1,6 +1,7 @@
 //! Routers of a network whose AS numbers have four octets (RFC 6793).
 
 use super::answers::DID;
+use super::beginnings::NEW;
 use super::items::Sent::{Dial, Says, Shut};
 use super::steps::Asked::Start;
 use super::steps::OPEN_OF_TWO;
@@ -27,15 +28,13 @@ fn pair(alloc: Global, number: Asn) -> Result<Network, Fail> {
     finished(net, pushed)
 }
 
-fn plays_as(alloc: Global, number: Asn, script: &[Step<'static>]) -> Result<Option<usize>, Fail> {
+fn plays_as(
+    alloc: Global,
+    number: Asn,
+    script: &[&[Step<'_>]],
+) -> Result<Option<(usize, usize)>, Fail> {
     let net = pair(alloc, number)?;
-    let from = Beginning {
-        cut: 4096,
-        routers: 2,
-        number,
-        first: &[],
-    };
-    let outcome = plays_in(alloc, &net, &from, script);
+    let outcome = plays_in(alloc, &net, &Beginning { number, ..NEW }, script);
     forget(net);
     outcome
 }
@@ -65,7 +64,7 @@ fn an_open_without_the_capability_closes(rt: HostRuntime) -> Result<(), Fail> {
         Does(Start(2), DID),
         Puts(2, Dial(2)),
     ];
-    assert!(rt; plays_as(rt.alloc(), 1, SCRIPT)? == None);
+    assert!(rt; plays_as(rt.alloc(), 1, &[SCRIPT])? == None);
     Ok(())
 }
 
@@ -84,6 +83,6 @@ fn an_open_says_a_number_of_four_octets(rt: HostRuntime) -> Result<(), Fail> {
         Puts(2, Says(1, &[OPEN_OF_70000])),
         IsDrained(2),
     ];
-    assert!(rt; plays_as(rt.alloc(), 70_000, SCRIPT)? == None);
+    assert!(rt; plays_as(rt.alloc(), 70_000, &[SCRIPT])? == None);
     Ok(())
 }
