@@ -4,6 +4,7 @@ mod messages;
 mod networks;
 mod offer_board_tests;
 mod offers;
+mod searches;
 mod snap_collector_tests;
 mod snap_marker_tests;
 mod stable_listing_tests;

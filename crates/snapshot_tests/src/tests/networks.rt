@@ -5,40 +5,54 @@ use prefix_lanes::Prefix;
 use ranked_policy::{Asn, NetBuilder, NetError, Network, Path, Settings};
 use std::alloc::{AllocError, Global};
 
+// The least of each: nothing here depends on them.
 const SETTINGS: Settings = Settings {
-    hold: 90,
+    hold: 0,
     restart: 0,
-    cut: 4096,
-    pipe: 64,
+    cut: 1,
+    pipe: 1,
     width: Width::Two,
 };
 
-/// Routers 1 to `routers` with these links. Router 1 is the origin of the prefix.
+pub(super) type Links = &'static [(Asn, Asn)];
+
+/// Ranks paths for the prefix. The router itself stands first in each.
+pub(super) type Rule = &'static [&'static [Asn]];
+
+/// Routers 1 to `routers` with these links, part by part, and these rules. Router 1 is the origin of the prefix.
 pub(super) struct Plan {
     pub(super) routers: u32,
-    pub(super) links: &'static [(Asn, Asn)],
-    /// The rules: each ranks paths for the prefix, and the router itself stands first in each path.
-    pub(super) rules: &'static [&'static [&'static [Asn]]],
+    pub(super) links: &'static [Links],
+    pub(super) rules: &'static [Rule],
 }
 
 /// Two routers with a link.
 pub(super) static PAIR: Plan = Plan {
     routers: 2,
-    links: &[(1, 2)],
+    links: &[&[(1, 2)]],
     rules: &[],
 };
 
-/// DISAGREE (Griffin, Shepherd and Wilfong 2002): 2 and 3 prefer the way through each other.
+pub(super) const TRIANGLE: Links = &[(1, 2), (1, 3), (2, 3)];
+
+pub(super) const TWO_OVER_THREE: Rule = &[&[2, 3, 1], &[2, 1]];
+
+pub(super) const THREE_OVER_TWO: Rule = &[&[3, 2, 1], &[3, 1]];
+
+/// 2 and 3 prefer the way through each other.
+pub(super) const DISAGREEING: &[Rule] = &[TWO_OVER_THREE, THREE_OVER_TWO];
+
+/// DISAGREE (Griffin, Shepherd and Wilfong 2002).
 pub(super) static DISAGREE: Plan = Plan {
     routers: 3,
-    links: &[(1, 2), (1, 3), (2, 3)],
-    rules: &[&[&[2, 3, 1], &[2, 1]], &[&[3, 2, 1], &[3, 1]]],
+    links: &[TRIANGLE],
+    rules: DISAGREEING,
 };
 
 /// A ring of 2, 3 and 4 round 1: each prefers the way through the next (BAD GADGET of the same paper).
 pub(super) static RING: Plan = Plan {
     routers: 4,
-    links: &[(1, 2), (1, 3), (1, 4), (2, 3), (3, 4), (4, 2)],
+    links: &[&[(1, 2), (1, 3), (1, 4), (2, 3), (3, 4), (4, 2)]],
     rules: &[
         &[&[2, 3, 1], &[2, 1]],
         &[&[3, 4, 1], &[3, 1]],
@@ -49,7 +63,7 @@ pub(super) static RING: Plan = Plan {
 /// 1 and 4 are linked by 2 and by 3, and there are no rules.
 pub(super) static SQUARE: Plan = Plan {
     routers: 4,
-    links: &[(1, 2), (1, 3), (2, 4), (3, 4)],
+    links: &[&[(1, 2), (1, 3), (2, 4), (3, 4)]],
     rules: &[],
 };
 
@@ -81,15 +95,10 @@ fn adds_rule(net: &mut NetBuilder, router: Asn, paths: Vec<Path>) -> Result<(), 
     }
 }
 
-fn push_path(alloc: Global, paths: &mut Vec<Path>, numbers: &[Asn]) -> Result<(), AllocError> {
-    let path = Path::from_slice(alloc, numbers)?;
-    paths.push(path).map_err(|_| AllocError)
-}
-
 fn paths_of(alloc: Global, lists: &[&[Asn]]) -> Result<Vec<Path>, AllocError> {
     let mut paths = Vec::new(alloc);
     for list in lists {
-        push_path(alloc, &mut paths, list)?;
+        paths.push(Path::from_slice(alloc, list)?)?;
     }
     Ok(paths)
 }
@@ -114,8 +123,8 @@ fn push_routers(net: &mut NetBuilder, plan: &Plan) -> Result<(), NetError> {
     Ok(())
 }
 
-fn push_links(net: &mut NetBuilder, plan: &Plan) -> Result<(), NetError> {
-    for (one, other) in plan.links {
+fn push_links(net: &mut NetBuilder, links: &[(Asn, Asn)]) -> Result<(), NetError> {
+    for (one, other) in links {
         adds_link(net, *one, *other)?;
     }
     Ok(())
@@ -130,7 +139,9 @@ fn push_rules(alloc: Global, net: &mut NetBuilder, plan: &Plan) -> Result<(), Ne
 
 fn push_all(alloc: Global, net: &mut NetBuilder, plan: &Plan) -> Result<(), NetError> {
     push_routers(net, plan)?;
-    push_links(net, plan)?;
+    for links in plan.links {
+        push_links(net, links)?;
+    }
     adds_origin(net)?;
     push_rules(alloc, net, plan)
 }

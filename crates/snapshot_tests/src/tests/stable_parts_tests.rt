@@ -1,37 +1,27 @@
 //! Into which parts a search lets routers fall (`stable_search`): a router that has one path in all choices is
 //! a part by itself.
 
-use super::networks::{Plan, network, prefix};
-use ranked_policy::{Asn, NetError, Network};
-use stable_paths::Instance;
-use stable_search::{Every, SearchError, SearchLimits, stable_assignments};
+use super::networks::{Links, Plan, Rule, THREE_OVER_TWO, TRIANGLE, TWO_OVER_THREE, network};
+use super::searches::{LIMITS, found};
+use ranked_policy::{Asn, NetError};
+use stable_search::Every;
 use std::alloc::Global;
 use std::process::Abort;
 use std::test::*;
 
-const LIMITS: SearchLimits = SearchLimits {
-    most: 1_000,
-    steps: 100_000,
-};
+/// 4 is linked with 2, 3, 5 and 6, and the origin with 5 and 6.
+const BEHIND: Links = &[(2, 4), (3, 4), (4, 5), (1, 5), (4, 6), (1, 6)];
+
+const FOUR_OVER_BOTH: Rule = &[&[4, 2, 3, 1], &[4, 3, 2, 1], &[4, 5, 1]];
 
 /// 2 and 3 disagree, and 4 has a way through either, so it never goes over 5. 6 would prefer that way.
 static BEHIND_DISAGREE: Plan = Plan {
     routers: 6,
-    links: &[
-        (1, 2),
-        (1, 3),
-        (2, 3),
-        (2, 4),
-        (3, 4),
-        (4, 5),
-        (1, 5),
-        (4, 6),
-        (1, 6),
-    ],
+    links: &[TRIANGLE, BEHIND],
     rules: &[
-        &[&[2, 3, 1], &[2, 1]],
-        &[&[3, 2, 1], &[3, 1]],
-        &[&[4, 2, 3, 1], &[4, 3, 2, 1], &[4, 5, 1]],
+        TWO_OVER_THREE,
+        THREE_OVER_TWO,
+        FOUR_OVER_BOTH,
         &[&[5, 1]],
         &[&[6, 4, 5, 1], &[6, 1]],
     ],
@@ -41,27 +31,14 @@ static BEHIND_DISAGREE: Plan = Plan {
 static BETWEEN_TWO: Plan = Plan {
     routers: 9,
     links: &[
-        (1, 2),
-        (1, 3),
-        (2, 3),
-        (2, 4),
-        (3, 4),
-        (4, 5),
-        (1, 5),
-        (4, 6),
-        (1, 6),
-        (1, 7),
-        (1, 8),
-        (7, 8),
-        (7, 9),
-        (8, 9),
-        (5, 9),
-        (6, 9),
+        TRIANGLE,
+        BEHIND,
+        &[(1, 7), (1, 8), (7, 8), (7, 9), (8, 9), (5, 9), (6, 9)],
     ],
     rules: &[
-        &[&[2, 3, 1], &[2, 1]],
-        &[&[3, 2, 1], &[3, 1]],
-        &[&[4, 2, 3, 1], &[4, 3, 2, 1], &[4, 5, 1]],
+        TWO_OVER_THREE,
+        THREE_OVER_TWO,
+        FOUR_OVER_BOTH,
         &[&[5, 1]],
         &[&[6, 4, 5, 1], &[6, 9, 5, 1], &[6, 1]],
         &[&[7, 8, 1], &[7, 1]],
@@ -69,15 +46,6 @@ static BETWEEN_TWO: Plan = Plan {
         &[&[9, 7, 8, 1], &[9, 8, 7, 1], &[9, 5, 1]],
     ],
 };
-
-// The call. This helper ensures nothing, so that no answer is carried along to the next.
-fn searched(
-    alloc: Global,
-    instance: &Instance,
-    limits: &SearchLimits,
-) -> Result<Every, SearchError> {
-    stable_assignments(alloc, instance, limits)
-}
 
 // Whether the parts have these routers, and so many choices.
 fn are_parts(every: &Every, parts: &[(&[Asn], usize)]) -> bool {
@@ -92,17 +60,6 @@ fn are_parts(every: &Every, parts: &[(&[Asn], usize)]) -> bool {
     true
 }
 
-fn falls(rt: &impl Abort, alloc: Global, net: &Network, parts: &[(&[Asn], usize)]) {
-    let Some(prefix) = prefix() else {
-        return;
-    };
-    assert!(rt; net.names(&prefix));
-    match searched(alloc, &Instance::new(net, &prefix), &LIMITS) {
-        Ok(every) => assert!(rt; are_parts(&every, parts)),
-        Err(_) => panic!(rt; "refused"),
-    }
-}
-
 // The routers of the network of a plan fall into these parts.
 fn has_parts(
     rt: &impl Abort,
@@ -110,10 +67,8 @@ fn has_parts(
     plan: &Plan,
     parts: &[(&[Asn], usize)],
 ) -> Result<(), NetError> {
-    match network(alloc, plan) {
-        Ok(net) => falls(rt, alloc, &net, parts),
-        Err(error) => return Err(error),
-    }
+    let net = network(alloc, plan)?;
+    assert!(rt; are_parts(&found(rt, alloc, &net, &LIMITS), parts));
     Ok(())
 }
 

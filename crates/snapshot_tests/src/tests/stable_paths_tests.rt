@@ -1,7 +1,6 @@
 //! What a check says of assignments of paths (`stable_paths`).
 
 use super::networks::{DISAGREE, Plan, RING, SQUARE, first_of, network, prefix};
-use prefix_lanes::Prefix;
 use ranked_policy::{Asn, NetError, Network, Path};
 use stable_paths::laws::{
     best_by_rank_is_best, disagree_chooses, each_network_has_its_model, no_origin_no_path,
@@ -46,17 +45,17 @@ fn has_path(assignment: &Assignment, router: Asn, numbers: &[Asn]) -> bool {
     assignment.path(router) == numbers
 }
 
-// What a check answers of a prefix that the network names.
-fn checked(
+/// What a check answers of a network that names the prefix.
+pub(super) fn checked(
     alloc: Global,
     net: &Network,
-    prefix: &Prefix,
     assignment: &Assignment,
 ) -> Option<Result<Check, StableError>> {
-    if !net.names(prefix) {
+    let prefix = prefix()?;
+    if !net.names(&prefix) {
         return None;
     }
-    Some(check(alloc, &Instance::new(net, prefix), assignment))
+    Some(check(alloc, &Instance::new(net, &prefix), assignment))
 }
 
 fn is_check(check: &Check, said: Said) -> bool {
@@ -78,20 +77,7 @@ fn is_said(answer: &Result<Check, StableError>, said: Said) -> bool {
 }
 
 fn says(alloc: Global, net: &Network, assignment: &Assignment, said: Said) -> bool {
-    match prefix() {
-        Some(prefix) => says_of(alloc, net, &prefix, assignment, said),
-        None => false,
-    }
-}
-
-fn says_of(
-    alloc: Global,
-    net: &Network,
-    prefix: &Prefix,
-    assignment: &Assignment,
-    said: Said,
-) -> bool {
-    match checked(alloc, net, prefix, assignment) {
+    match checked(alloc, net, assignment) {
         Some(answer) => is_said(&answer, said),
         None => false,
     }

@@ -1,19 +1,19 @@
 //! Which assignments a search says are stable (`stable_search`), beside a check of each assignment of
 //! listed paths.
 
-use super::networks::{DISAGREE, PAIR, Plan, RING, SQUARE, network, prefix};
+use super::networks::{
+    DISAGREE, DISAGREEING, PAIR, Plan, RING, SQUARE, THREE_OVER_TWO, TRIANGLE, TWO_OVER_THREE,
+    network,
+};
+use super::searches::{LIMITS, Limit, counts, found, refuses};
+use super::stable_paths_tests::checked;
 use ranked_policy::{Asn, NetError, Network, Path};
-use stable_paths::{Assignment, Check, Instance, check};
+use stable_paths::{Assignment, Check};
 use stable_search::laws::stable_is_fitting;
-use stable_search::{Component, Every, SearchError, SearchLimits, stable_assignments};
+use stable_search::{Component, Every, SearchLimits};
 use std::alloc::Global;
 use std::process::Abort;
 use std::test::*;
-
-pub(super) const LIMITS: SearchLimits = SearchLimits {
-    most: 1_000,
-    steps: 100_000,
-};
 
 /// As many paths as one router of a plan has at most, the empty path among them.
 const MOST_LISTED: u32 = 5;
@@ -28,7 +28,7 @@ static ALONE: Plan = Plan {
 /// 2, 3 and 4 each prefer the way through the next that ends there, so they agree.
 static AGREE: Plan = Plan {
     routers: 4,
-    links: &[(1, 2), (1, 3), (1, 4), (2, 3), (3, 4)],
+    links: &[&[(1, 2), (1, 3), (1, 4), (2, 3), (3, 4)]],
     rules: &[
         &[&[2, 3, 4, 1], &[2, 1]],
         &[&[3, 4, 1], &[3, 1]],
@@ -40,14 +40,8 @@ static AGREE: Plan = Plan {
 static EVEN_RING: Plan = Plan {
     routers: 5,
     links: &[
-        (1, 2),
-        (1, 3),
-        (1, 4),
-        (1, 5),
-        (2, 3),
-        (3, 4),
-        (4, 5),
-        (5, 2),
+        &[(1, 2), (1, 3), (1, 4), (1, 5)],
+        &[(2, 3), (3, 4), (4, 5), (5, 2)],
     ],
     rules: &[
         &[&[2, 3, 1], &[2, 1]],
@@ -60,10 +54,10 @@ static EVEN_RING: Plan = Plan {
 /// Two pairs that disagree, each by itself.
 static TWO_PAIRS: Plan = Plan {
     routers: 5,
-    links: &[(1, 2), (1, 3), (2, 3), (1, 4), (1, 5), (4, 5)],
+    links: &[TRIANGLE, &[(1, 4), (1, 5), (4, 5)]],
     rules: &[
-        &[&[2, 3, 1], &[2, 1]],
-        &[&[3, 2, 1], &[3, 1]],
+        TWO_OVER_THREE,
+        THREE_OVER_TWO,
         &[&[4, 5, 1], &[4, 1]],
         &[&[5, 4, 1], &[5, 1]],
     ],
@@ -72,45 +66,38 @@ static TWO_PAIRS: Plan = Plan {
 /// 2 lists a path over a router that is no peer of it, one that ends elsewhere, and none that it can have.
 static NONE_CAN: Plan = Plan {
     routers: 3,
-    links: &[(1, 3), (2, 3)],
+    links: &[&[(1, 3), (2, 3)]],
     rules: &[&[&[2, 1], &[2, 3]], &[&[3, 1]]],
 };
 
 /// 3 permits no path, so 2 has none over it.
 static NONE_PERMITTED: Plan = Plan {
     routers: 3,
-    links: &[(1, 3), (2, 3)],
+    links: &[&[(1, 3), (2, 3)]],
     rules: &[&[&[2, 3, 1]], &[&[3, 2, 1]]],
 };
 
 /// 4 is linked with the origin and with one of two that disagree.
 static BESIDE_DISAGREE: Plan = Plan {
     routers: 4,
-    links: &[(1, 2), (1, 3), (2, 3), (2, 4), (1, 4)],
-    rules: &[&[&[2, 3, 1], &[2, 1]], &[&[3, 2, 1], &[3, 1]]],
+    links: &[TRIANGLE, &[(2, 4), (1, 4)]],
+    rules: DISAGREEING,
 };
 
 /// 2 has a rule, 3 and 4 have none.
 static BEHIND_A_RULE: Plan = Plan {
     routers: 4,
-    links: &[(1, 2), (1, 3), (2, 3), (2, 4)],
-    rules: &[&[&[2, 3, 1], &[2, 1]]],
+    links: &[TRIANGLE, &[(2, 4)]],
+    rules: &[TWO_OVER_THREE],
 };
 
 /// Each of five is linked with each other.
 static COMPLETE: Plan = Plan {
     routers: 5,
     links: &[
-        (1, 2),
-        (1, 3),
-        (1, 4),
-        (1, 5),
-        (2, 3),
-        (2, 4),
-        (2, 5),
-        (3, 4),
-        (3, 5),
-        (4, 5),
+        &[(1, 2), (1, 3), (1, 4), (1, 5)],
+        &[(2, 3), (2, 4), (2, 5)],
+        &[(3, 4), (3, 5), (4, 5)],
     ],
     rules: &[],
 };
@@ -119,23 +106,9 @@ static COMPLETE: Plan = Plan {
 static LINE: Plan = Plan {
     routers: 18,
     links: &[
-        (1, 2),
-        (2, 3),
-        (3, 4),
-        (4, 5),
-        (5, 6),
-        (6, 7),
-        (7, 8),
-        (8, 9),
-        (9, 10),
-        (10, 11),
-        (11, 12),
-        (12, 13),
-        (13, 14),
-        (14, 15),
-        (15, 16),
-        (16, 17),
-        (17, 18),
+        &[(1, 2), (2, 3), (3, 4), (4, 5), (5, 6), (6, 7)],
+        &[(7, 8), (8, 9), (9, 10), (10, 11), (11, 12), (12, 13)],
+        &[(13, 14), (14, 15), (15, 16), (16, 17), (17, 18)],
     ],
     rules: &[],
 };
@@ -182,9 +155,9 @@ fn sets_all(alloc: Global, plan: &Plan, code: u32, assignment: &mut Assignment) 
     true
 }
 
-fn is_stable(alloc: Global, instance: &Instance, assignment: &Assignment) -> bool {
-    match check(alloc, instance, assignment) {
-        Ok(Check::Stable) => true,
+fn is_stable(alloc: Global, net: &Network, assignment: &Assignment) -> bool {
+    match checked(alloc, net, assignment) {
+        Some(Ok(Check::Stable)) => true,
         _ => false,
     }
 }
@@ -221,41 +194,15 @@ fn is_listed(every: &Every, assignment: &Assignment) -> bool {
 }
 
 // Whether the assignment of a number is listed exactly where it is stable; true where there is none.
-fn agrees(alloc: Global, plan: &Plan, instance: &Instance, every: &Every, code: u32) -> bool {
+fn agrees(alloc: Global, plan: &Plan, net: &Network, every: &Every, code: u32) -> bool {
     let mut assignment = Assignment::new(alloc);
     !sets_all(alloc, plan, code, &mut assignment)
-        || is_stable(alloc, instance, &assignment) == is_listed(every, &assignment)
+        || is_stable(alloc, net, &assignment) == is_listed(every, &assignment)
 }
 
-fn searched(
-    alloc: Global,
-    instance: &Instance,
-    limits: &SearchLimits,
-) -> Result<Every, SearchError> {
-    stable_assignments(alloc, instance, limits)
-}
-
-fn all_agree(rt: &impl Abort, alloc: Global, plan: &Plan, instance: &Instance, every: &Every) {
+fn all_agree(rt: &impl Abort, alloc: Global, plan: &Plan, net: &Network, every: &Every) {
     for code in 0..MOST_LISTED.wrapping_pow(plan.routers) {
-        assert!(rt;
-            agrees(alloc, plan, instance, every, code),
-            "assignment {code}"
-        );
-    }
-}
-
-fn lists(rt: &impl Abort, alloc: Global, plan: &Plan, net: &Network, stable: u64) {
-    let Some(prefix) = prefix() else {
-        return;
-    };
-    assert!(rt; net.names(&prefix));
-    let instance = Instance::new(net, &prefix);
-    match searched(alloc, &instance, &LIMITS) {
-        Ok(every) => {
-            assert!(rt; every.count() == Some(stable));
-            all_agree(rt, alloc, plan, &instance, &every);
-        }
-        Err(_) => panic!(rt; "refused"),
+        assert!(rt; agrees(alloc, plan, net, every, code), "assignment {code}");
     }
 }
 
@@ -268,10 +215,10 @@ pub(super) fn finds_among(
     all: &Plan,
     stable: u64,
 ) -> Result<(), NetError> {
-    match network(alloc, plan) {
-        Ok(net) => lists(rt, alloc, all, &net, stable),
-        Err(error) => return Err(error),
-    }
+    let net = network(alloc, plan)?;
+    let every = found(rt, alloc, &net, &LIMITS);
+    assert!(rt; every.count() == Some(stable));
+    all_agree(rt, alloc, all, &net, &every);
     Ok(())
 }
 
@@ -302,99 +249,19 @@ fn has_path(every: &Every, router: Asn, numbers: &[Asn]) -> bool {
     false
 }
 
-fn lists_one(rt: &impl Abort, alloc: Global, net: &Network, paths: &[&[Asn]]) {
-    let Some(prefix) = prefix() else {
-        return;
-    };
-    assert!(rt; net.names(&prefix));
-    match searched(alloc, &Instance::new(net, &prefix), &LIMITS) {
-        Ok(every) => {
-            assert!(rt; every.count() == Some(1));
-            let mut router: Asn = 1;
-            for numbers in paths {
-                assert!(rt; has_path(&every, router, numbers), "router {router}");
-                router = router.wrapping_add(1);
-            }
-        }
-        Err(_) => panic!(rt; "refused"),
+fn lists_one(rt: &impl Abort, every: &Every, paths: &[&[Asn]]) {
+    assert!(rt; every.count() == Some(1));
+    let mut router: Asn = 1;
+    for numbers in paths {
+        assert!(rt; has_path(every, router, numbers), "router {router}");
+        router = router.wrapping_add(1);
     }
 }
 
 // The search of the network of a plan lists one assignment, and it has these paths, by router.
 fn has_one(rt: &impl Abort, alloc: Global, plan: &Plan, paths: &[&[Asn]]) -> Result<(), NetError> {
-    match network(alloc, plan) {
-        Ok(net) => lists_one(rt, alloc, &net, paths),
-        Err(error) => return Err(error),
-    }
-    Ok(())
-}
-
-/// Which limit a search met.
-#[derive(Clone, Copy)]
-pub(super) enum Limit {
-    Paths,
-    Choices,
-    Steps,
-}
-
-// Whether a refusal is of this limit, at these routers.
-fn is_refusal(error: &SearchError, limit: Limit, at: &[Asn]) -> bool {
-    match (error, limit) {
-        (SearchError::TooManyPaths { router }, Limit::Paths) => at == [*router].as_slice(),
-        (SearchError::TooManyChoices { routers }, Limit::Choices) => routers.as_slice() == at,
-        (SearchError::TooManySteps { routers }, Limit::Steps) => routers.as_slice() == at,
-        _ => false,
-    }
-}
-
-fn answers(
-    rt: &impl Abort,
-    alloc: Global,
-    net: &Network,
-    limits: &SearchLimits,
-    limit: Limit,
-    at: &[Asn],
-) {
-    let Some(prefix) = prefix() else {
-        return;
-    };
-    assert!(rt; net.names(&prefix));
-    match searched(alloc, &Instance::new(net, &prefix), limits) {
-        Ok(_) => panic!(rt; "not refused"),
-        Err(error) => assert!(rt; is_refusal(&error, limit, at)),
-    }
-}
-
-fn parts_have_few(
-    rt: &impl Abort,
-    alloc: Global,
-    net: &Network,
-    limits: &SearchLimits,
-    stable: u64,
-) {
-    let Some(prefix) = prefix() else {
-        return;
-    };
-    assert!(rt; net.names(&prefix));
-    match searched(alloc, &Instance::new(net, &prefix), limits) {
-        Ok(every) => assert!(rt; every.count() == Some(stable)),
-        Err(_) => panic!(rt; "refused"),
-    }
-}
-
-/// The search of the network of a plan is refused.
-pub(super) fn refuses(
-    rt: &impl Abort,
-    alloc: Global,
-    plan: &Plan,
-    limits: &SearchLimits,
-    limit: Limit,
-    at: &[Asn],
-) -> Result<(), NetError> {
-    match network(alloc, plan) {
-        Ok(net) => answers(rt, alloc, &net, limits, limit, at),
-        Err(error) => return Err(error),
-    }
+    let net = network(alloc, plan)?;
+    lists_one(rt, &found(rt, alloc, &net, &LIMITS), paths);
     Ok(())
 }
 
@@ -432,11 +299,7 @@ fn two_pairs_have_four(rt: HostRuntime) -> Result<(), NetError> {
 #[test]
 fn each_pair_has_two_choices(rt: HostRuntime) -> Result<(), NetError> {
     let limits = SearchLimits { most: 2, ..LIMITS };
-    match network(rt.alloc(), &TWO_PAIRS) {
-        Ok(net) => parts_have_few(&rt, rt.alloc(), &net, &limits, 4),
-        Err(error) => return Err(error),
-    }
-    Ok(())
+    counts(&rt, rt.alloc(), &TWO_PAIRS, &limits, 4)
 }
 
 #[test]
