@@ -1,13 +1,11 @@
 //! Offers at a board.
 
+use crate::asking::{Asked, both_are_alike};
 use offer_board::BoardState;
 use ranked_policy::Network;
 use snap_collector::{CollectError, Taken};
 use snap_marker::{Cause, Lost, Offer};
 use std::alloc::{AllocError, Global};
-use std::mem::forget;
-
-type Answer = Result<(Taken, u64), CollectError>;
 
 // Router 1 lost the snapshot of this number, as its session closed.
 fn lost(number: u32) -> Offer {
@@ -20,82 +18,35 @@ fn lost(number: u32) -> Offer {
     })
 }
 
-// What a board answers. It ensures nothing, so that one answer is not carried along to the next.
-fn answer(board: &mut BoardState, number: u32) -> Answer {
-    board.offer(u64::from(number), &lost(number), Ok(()))
-}
+impl Asked for BoardState {
+    // The number of a snapshot that is lost.
+    type Call = u32;
 
-// What the readers of a board say.
-fn said(alloc: Global, board: &BoardState) -> Result<String, AllocError> {
-    let decided = board.collector().decided();
-    let outcome = board.collector().outcome(1);
-    let (stamp, offers) = (board.stamp(), board.offers());
-    format!(in alloc; "stamp {stamp} offers {offers:?} decided {decided:?} {outcome:?}")
-}
+    type Answer = Result<(Taken, u64), CollectError>;
 
-fn is_same(alloc: Global, one: &BoardState, other: &BoardState) -> Result<bool, AllocError> {
-    let first = said(alloc, one)?;
-    let second = said(alloc, other)?;
-    Ok(first.as_str() == second.as_str())
-}
+    const EACH: bool = true;
 
-// What a board answers, asked again where memory was refused.
-fn at_last(board: &mut BoardState, number: u32) -> Answer {
-    let got = answer(board, number);
-    if got == Err(CollectError::Memory) {
-        return answer(board, number);
+    fn answer(&mut self, number: &u32) -> Result<(Taken, u64), CollectError> {
+        self.offer(u64::from(*number), &lost(*number), Ok(()))
     }
-    got
-}
 
-// Whether the offer is answered alike by both, and leaves the first as the second where memory was refused.
-fn offer_is_alike(
-    alloc: Global,
-    one: &mut BoardState,
-    other: &mut BoardState,
-    number: u32,
-) -> Result<bool, AllocError> {
-    let mut got = answer(one, number);
-    if got == Err(CollectError::Memory) {
-        if !is_same(alloc, one, other)? {
-            return Ok(false);
-        }
-        got = answer(one, number);
+    fn is_refused(answer: &Result<(Taken, u64), CollectError>) -> bool {
+        *answer == Err(CollectError::Memory)
     }
-    Ok(got == at_last(other, number) && is_same(alloc, one, other)?)
-}
 
-fn offers_are_alike(
-    alloc: Global,
-    one: &mut BoardState,
-    other: &mut BoardState,
-) -> Result<bool, AllocError> {
-    for number in 1..=5u32 {
-        if !offer_is_alike(alloc, one, other, number)? {
-            return Ok(false);
-        }
+    fn said(&mut self, alloc: Global, _network: &Network) -> Result<String, AllocError> {
+        let decided = self.collector().decided();
+        let outcome = self.collector().outcome(1);
+        let (stamp, offers) = (self.stamp(), self.offers());
+        format!(in alloc; "stamp {stamp} offers {offers:?} decided {decided:?} {outcome:?}")
     }
-    Ok(true)
 }
 
-// The boards are left, not dropped, as routers are.
-fn are_alike_in(alloc: Global, network: &Network, mut one: BoardState) -> Result<bool, AllocError> {
-    let alike = match BoardState::new(alloc, network) {
-        Ok(mut other) => {
-            let alike = offers_are_alike(alloc, &mut one, &mut other);
-            forget(other);
-            alike
-        }
-        Err(AllocError) => Err(AllocError),
-    };
-    forget(one);
-    alike
-}
-
-/// Whether each refused offer leaves its board, and again is answered as at another.
+/// Whether offers are alike, made to two boards.
 pub fn are_alike(alloc: Global, network: &Network) -> Result<bool, AllocError> {
-    match BoardState::new(alloc, network) {
-        Ok(one) => are_alike_in(alloc, network, one),
-        Err(AllocError) => Err(AllocError),
-    }
+    let (one, other) = (
+        BoardState::new(alloc, network),
+        BoardState::new(alloc, network),
+    );
+    both_are_alike(alloc, network, one, other, &[1, 2, 3, 4, 5])
 }

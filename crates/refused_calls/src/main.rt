@@ -8,6 +8,7 @@
 //! With ample memory it shows only that two values go on alike. `sweeps/run` refuses each of its growths in turn.
 #![tactic(auto)]
 
+mod asking;
 mod boards;
 mod messages;
 mod readings;

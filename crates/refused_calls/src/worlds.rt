@@ -1,11 +1,11 @@
 //! Steps of a world.
 
+use crate::asking::{Asked, both_are_alike};
 use crate::readings::{push, push_router};
 use prefix_lanes::Prefix;
 use ranked_policy::Network;
 use router_model::{Command, Stepped};
 use std::alloc::{AllocError, Global};
-use std::mem::forget;
 use world_core::{Event, StepFault, World};
 
 // How many turns each of the two routers has behind the commands.
@@ -48,107 +48,46 @@ fn new_world(alloc: Global, network: &Network) -> Result<World<'_>, AllocError> 
     World::new(alloc, network).map_err(|_| AllocError)
 }
 
-// Appends what the readers of a world say, but for the events that it did.
-fn push_said(
-    alloc: Global,
-    text: &mut String,
-    network: &Network,
-    world: &World<'_>,
-) -> Result<(), AllocError> {
-    for router in network.routers() {
-        if let Some(router) = world.router(router.asn) {
-            push_router(alloc, text, network, router)?;
-        }
+impl Asked for World<'_> {
+    type Call = Event;
+
+    type Answer = Result<Stepped, StepFault>;
+
+    // They say too much to be compared behind each step.
+    const EACH: bool = false;
+
+    fn answer(&mut self, event: &Event) -> Result<Stepped, StepFault> {
+        self.step(event)
     }
-    let decided = world.collector().decided();
-    let outcome = world.collector().outcome(1);
-    push(text, format!(in alloc; " decided {decided:?} {outcome:?}"))
-}
 
-// Whether two worlds did the same and say the same.
-fn is_same(
-    alloc: Global,
-    network: &Network,
-    one: &World<'_>,
-    other: &World<'_>,
-) -> Result<bool, AllocError> {
-    let (mut first, mut second) = (String::new(alloc), String::new(alloc));
-    push_said(alloc, &mut first, network, one)?;
-    push_said(alloc, &mut second, network, other)?;
-    Ok(one.run() == other.run() && first.as_str() == second.as_str())
-}
-
-// What a step answers. It ensures nothing, so that one answer is not carried along to the next.
-fn answer(world: &mut World<'_>, event: &Event) -> Result<Stepped, StepFault> {
-    world.step(event)
-}
-
-// What the step answers, asked again where memory was refused.
-fn at_last(world: &mut World<'_>, event: &Event) -> Result<Stepped, StepFault> {
-    let got = answer(world, event);
-    if got == Err(StepFault::Memory) {
-        return answer(world, event);
+    fn is_refused(answer: &Result<Stepped, StepFault>) -> bool {
+        *answer == Err(StepFault::Memory)
     }
-    got
-}
 
-// Whether the step is answered alike by both, and leaves the first as the second where memory was refused.
-fn step_is_alike(
-    alloc: Global,
-    network: &Network,
-    one: &mut World<'_>,
-    other: &mut World<'_>,
-    event: &Event,
-) -> Result<bool, AllocError> {
-    let mut got = answer(one, event);
-    if got == Err(StepFault::Memory) {
-        if !is_same(alloc, network, one, other)? {
-            return Ok(false);
+    fn said(&mut self, alloc: Global, network: &Network) -> Result<String, AllocError> {
+        let mut text = String::new(alloc);
+        for router in network.routers() {
+            if let Some(router) = self.router(router.asn) {
+                push_router(alloc, &mut text, network, router)?;
+            }
         }
-        got = answer(one, event);
+        let decided = self.collector().decided();
+        let outcome = self.collector().outcome(1);
+        push(
+            &mut text,
+            format!(in alloc; " decided {decided:?} {outcome:?}"),
+        )?;
+        Ok(text)
     }
-    Ok(got == at_last(other, event))
-}
 
-fn steps_are_alike(
-    alloc: Global,
-    network: &Network,
-    one: &mut World<'_>,
-    other: &mut World<'_>,
-    events: &[Event],
-) -> Result<bool, AllocError> {
-    for event in events {
-        if !step_is_alike(alloc, network, one, other, event)? {
-            return Ok(false);
-        }
+    fn did_the_same(&self, other: &Self) -> bool {
+        self.run() == other.run()
     }
-    is_same(alloc, network, one, other)
 }
 
-// The worlds are left, not dropped, as routers are.
-fn are_alike_in(
-    alloc: Global,
-    network: &Network,
-    mut one: World<'_>,
-    events: &[Event],
-) -> Result<bool, AllocError> {
-    let alike = match new_world(alloc, network) {
-        Ok(mut other) => {
-            let alike = steps_are_alike(alloc, network, &mut one, &mut other, events);
-            forget(other);
-            alike
-        }
-        Err(AllocError) => Err(AllocError),
-    };
-    forget(one);
-    alike
-}
-
-/// Whether each refused step leaves its world, and again answers what it answers of another.
+/// Whether the steps are alike, asked of two worlds.
 pub fn are_alike(alloc: Global, network: &Network) -> Result<bool, AllocError> {
     let events = events(alloc)?;
-    match new_world(alloc, network) {
-        Ok(one) => are_alike_in(alloc, network, one, events.as_slice()),
-        Err(AllocError) => Err(AllocError),
-    }
+    let (one, other) = (new_world(alloc, network), new_world(alloc, network));
+    both_are_alike(alloc, network, one, other, events.as_slice())
 }
