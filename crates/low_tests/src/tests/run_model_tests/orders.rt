@@ -4,15 +4,7 @@ ghost use Rattle.run_model.specs.ThroughCut.{RunsPassThroughCuts};
 ghost use Rattle.std.specs.Prelude.{ℕ, Bool};
 ghost use Rattle.low_tests.specs.Speakers.{LinkedCounterStep, Speaker, SpeakerStep, Word, CountersDoNotCommute, ForetoldIsNoRun, NotAllOffersStand, NotByRouters, NotThroughAnyCut, NotWhateverIsCollected, SpeakersPutsCommute, TiesAreNotTurned, ToldIsARun, ToldThroughTheCut, TwoJournalsGathered};
 
-use run_model::{
-    JournalLines, Routers, WholeLines, causal_orders_are_runs, causal_orders_end_alike,
-    gathered_events_are_stamped, gathered_is_one, gathered_stamps_rise, gathering_lifts,
-    journals_can_be_gathered, offers_stand, parts_are_as_long, puts_come_earlier,
-    runs_are_causal_orders, runs_have_their_cuts, runs_pass_through_cuts, sorting_by_stamp_gathers,
-    sorting_by_stamp_then_router_gathers, stamps_change_no_item, stamps_give_causal_orders,
-    stamps_give_the_collectors_order, steps_are_takes_in_order, takes_have_their_puts,
-    threads_are_a_run,
-};
+use run_model::*;
 
 /// Routers that add up what they take, and send their totals to those that they are linked with.
 struct Counters;
