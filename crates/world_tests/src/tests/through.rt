@@ -25,68 +25,49 @@ enum Does {
     Rounds(u32),
 }
 
-// A schedule, the number of a snapshot, and what comes of it: how many events are inside its cut, how many
+// A schedule in parts, the number of a snapshot, and what comes of it: how many events are inside its cut, how many
 // there are, and how many lead to the cut.
 #[derive(Clone, Copy)]
 struct Row {
-    all: &'static [Does],
+    all: &'static [&'static [Does]],
     number: u32,
     through: Option<(usize, usize, usize)>,
 }
 
+// Two routers come to rest, with a route.
+const SETTLES: &[Does] = &[
+    Does::Starts(1, 2),
+    Does::Starts(2, 1),
+    Does::Originates(1),
+    Does::Rounds(40),
+];
+
 // At rest, and no such snapshot; while a withdrawal is in flight; and with a session that closes meanwhile.
 static OF_TWO: [Row; 4] = [
     Row {
-        all: &[
-            Does::Starts(1, 2),
-            Does::Starts(2, 1),
-            Does::Originates(1),
-            Does::Rounds(40),
-            Does::Records(1, 1),
-            Does::Rounds(10),
-        ],
+        all: &[SETTLES, &[Does::Records(1, 1), Does::Rounds(10)]],
         number: 1,
         through: Some((31, 36, 32)),
     },
     Row {
-        all: &[
-            Does::Starts(1, 2),
-            Does::Starts(2, 1),
-            Does::Originates(1),
-            Does::Rounds(40),
-            Does::Records(1, 1),
-            Does::Rounds(10),
-        ],
+        all: &[SETTLES, &[Does::Records(1, 1), Does::Rounds(10)]],
         number: 2,
         through: None,
     },
     Row {
         all: &[
-            Does::Starts(1, 2),
-            Does::Starts(2, 1),
-            Does::Originates(1),
-            Does::Rounds(40),
-            Does::Withdraws(1),
-            Does::Decides(1),
-            Does::Advertises(1),
-            Does::Records(1, 1),
-            Does::Records(2, 1),
-            Does::Rounds(10),
+            SETTLES,
+            &[Does::Withdraws(1), Does::Decides(1), Does::Advertises(1)],
+            &[Does::Records(1, 1), Does::Records(2, 1), Does::Rounds(10)],
         ],
         number: 1,
         through: Some((34, 48, 34)),
     },
     Row {
         all: &[
-            Does::Starts(1, 2),
-            Does::Starts(2, 1),
-            Does::Originates(1),
-            Does::Rounds(40),
-            Does::Records(1, 1),
-            Does::Resets(2, 1),
-            Does::Rounds(5),
-            Does::Starts(1, 2),
-            Does::Rounds(40),
+            SETTLES,
+            &[Does::Records(1, 1), Does::Resets(2, 1), Does::Rounds(5)],
+            &[Does::Starts(1, 2), Does::Rounds(40)],
         ],
         number: 1,
         through: None,
@@ -94,12 +75,12 @@ static OF_TWO: [Row; 4] = [
 ];
 
 static OF_ONE: [Row; 1] = [Row {
-    all: &[
+    all: &[&[
         Does::Originates(1),
         Does::Decides(1),
         Does::Records(1, 1),
         Does::Offers(1),
-    ],
+    ]],
     number: 1,
     through: Some((3, 4, 3)),
 }];
@@ -136,11 +117,18 @@ fn adds(events: &mut Vec<Event>, does: Does, prefix: Prefix) -> Result<(), Alloc
     }
 }
 
+fn adds_all(events: &mut Vec<Event>, part: &[Does], prefix: Prefix) -> Result<(), AllocError> {
+    for &does in part {
+        adds(events, does, prefix)?;
+    }
+    Ok(())
+}
+
 // The events of a schedule, those that find nothing to do among them.
-fn schedule(alloc: Global, all: &[Does], prefix: Prefix) -> Result<Vec<Event>, AllocError> {
+fn schedule(alloc: Global, all: &[&[Does]], prefix: Prefix) -> Result<Vec<Event>, AllocError> {
     let mut events = Vec::new(alloc);
-    for &does in all {
-        adds(&mut events, does, prefix)?;
+    for part in all {
+        adds_all(&mut events, part, prefix)?;
     }
     Ok(events)
 }
