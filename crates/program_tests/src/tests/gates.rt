@@ -144,23 +144,26 @@ fn new_asked() -> Asked {
     }
 }
 
-fn read_pair(alloc: Global, text: &str) -> Result<Network, Fail> {
+// The network of two routers, and the prefix of router 1.
+#[derive(Drop)]
+struct Pair {
+    network: Network,
+    prefix: Prefix,
+}
+
+fn read_pair(alloc: Global, text: &str) -> Result<Pair, Fail> {
+    let prefix = Prefix::new(0x0a01_0000, 16).ok_or("a prefix")?;
     match read_network(alloc, text.as_bytes()) {
-        Ok(network) => Ok(network),
+        Ok(network) => Ok(Pair { network, prefix }),
         Err(_) => Err("a network")?,
     }
 }
 
 // Whether each of two gates saw the other be asked before it gave its first chore.
-fn meet<R: Threads + Wait + Sync>(
-    rt: &R,
-    alloc: Global,
-    network: &Network,
-    prefix: Prefix,
-) -> Result<bool, AllocError> {
+fn meet<R: Threads + Wait + Sync>(rt: &R, alloc: Global, pair: &Pair) -> Result<bool, AllocError> {
     let asked = new_asked();
-    let gates = two_gates(alloc, &asked, Holds::First, prefix)?;
-    match run_net(rt, alloc, network, gates, Limits { turns: 10 }) {
+    let gates = two_gates(alloc, &asked, Holds::First, pair.prefix)?;
+    match run_net(rt, alloc, &pair.network, gates, Limits { turns: 10 }) {
         Ok(record) => Ok(record.workers.iter().all(|worked| worked.gate.stops == 0)),
         Err(_) => Ok(false),
     }
@@ -169,9 +172,8 @@ fn meet<R: Threads + Wait + Sync>(
 // Two threads ran at once, since each gate saw the other be asked.
 #[test]
 fn gate_meeting(rt: HostRuntime) -> Result<(), Fail> {
-    let prefix = Prefix::new(0x0a01_0000, 16).ok_or("a prefix")?;
-    let network = read_pair(rt.alloc(), WIDE)?;
-    assert!(rt; meet(&rt, rt.alloc(), &network, prefix)?);
+    let pair = read_pair(rt.alloc(), WIDE)?;
+    assert!(rt; meet(&rt, rt.alloc(), &pair)?);
     Ok(())
 }
 
@@ -179,24 +181,22 @@ fn gate_meeting(rt: HostRuntime) -> Result<(), Fail> {
 fn in_lockstep<R: Threads + Wait + Sync>(
     rt: &R,
     alloc: Global,
-    network: &Network,
-    prefix: Prefix,
+    pair: &Pair,
 ) -> Result<(Vec<u8>, Option<u8>), AllocError> {
     let asked = new_asked();
-    let gates = two_gates(alloc, &asked, Holds::Each, prefix)?;
+    let gates = two_gates(alloc, &asked, Holds::Each, pair.prefix)?;
     let mut writer = Watched::new(Vec::new(alloc));
     let limits = Limits { turns: 1000 };
-    let status = run_gated(rt, alloc, network, gates, limits, 1, &mut writer).ok();
+    let status = run_gated(rt, alloc, &pair.network, gates, limits, 1, &mut writer).ok();
     Ok((writer.into_inner(), status))
 }
 
 // Workers in lockstep take what their peers put, and a snapshot settles.
 #[test]
 fn gate_lockstep(rt: HostRuntime) -> Result<(), Fail> {
-    let prefix = Prefix::new(0x0a01_0000, 16).ok_or("a prefix")?;
     for text in [WIDE, NARROW] {
-        let network = read_pair(rt.alloc(), text)?;
-        let (text, status) = in_lockstep(&rt, rt.alloc(), &network, prefix)?;
+        let pair = read_pair(rt.alloc(), text)?;
+        let (text, status) = in_lockstep(&rt, rt.alloc(), &pair)?;
         assert!(rt; (text.as_slice(), status) == (BOTH.as_bytes(), Some(0)));
     }
     Ok(())
@@ -222,10 +222,10 @@ fn settles<R: Threads + Wait + Sync>(
 #[test]
 fn each_run_settles(rt: HostRuntime) -> Result<(), Fail> {
     for text in [WIDE, NARROW] {
-        let network = read_pair(rt.alloc(), text)?;
+        let pair = read_pair(rt.alloc(), text)?;
         for run in 0..RUNS {
             let _ = run;
-            assert!(rt; settles(&rt, rt.alloc(), &network)?);
+            assert!(rt; settles(&rt, rt.alloc(), &pair.network)?);
         }
     }
     Ok(())

@@ -1,6 +1,6 @@
 //! The record of two routers in lockstep, through the cut of its snapshot.
 
-use super::{Holds, NARROW, WIDE, new_asked, read_pair, two_gates};
+use super::{Holds, NARROW, Pair, WIDE, new_asked, read_pair, two_gates};
 use net_workers::{Limits, Record, run_net};
 use prefix_lanes::Prefix;
 use ranked_policy::{Asn, Network};
@@ -88,23 +88,21 @@ fn goes_through<G>(
 fn does_so<R: Threads + Wait + Sync>(
     rt: &R,
     alloc: Global,
-    network: &Network,
-    prefix: Prefix,
+    pair: &Pair,
 ) -> Result<bool, AllocError> {
     let asked = new_asked();
-    let gates = two_gates(alloc, &asked, Holds::Each, prefix)?;
-    match run_net(rt, alloc, network, gates, Limits { turns: 1000 }) {
-        Ok(record) => goes_through(alloc, network, &record, &prefix),
+    let gates = two_gates(alloc, &asked, Holds::Each, pair.prefix)?;
+    match run_net(rt, alloc, &pair.network, gates, Limits { turns: 1000 }) {
+        Ok(record) => goes_through(alloc, &pair.network, &record, &pair.prefix),
         Err(_) => Ok(false),
     }
 }
 
 #[test]
 fn gate_lockstep_through_the_cut(rt: HostRuntime) -> Result<(), Fail> {
-    let prefix = Prefix::new(0x0a01_0000, 16).ok_or("a prefix")?;
     for text in [WIDE, NARROW] {
-        let network = read_pair(rt.alloc(), text)?;
-        assert!(rt; does_so(&rt, rt.alloc(), &network, prefix)?);
+        let pair = read_pair(rt.alloc(), text)?;
+        assert!(rt; does_so(&rt, rt.alloc(), &pair)?);
     }
     Ok(())
 }
