@@ -72,52 +72,87 @@ fn counts_above_a_limit_are_refused(rt: HostRuntime) -> Result<(), Fail> {
     Ok(())
 }
 
-// Appends links of router 1 with each from 3 to `last`.
-fn push_links(alloc: Global, text: &mut Vec<u8>, last: u32) -> Result<(), AllocError> {
-    for i in 2..last {
-        let peer = i.wrapping_add(1);
-        push(text, format!(in alloc; "link {peer} 1\n"))?;
+// What router 1 has only so many of.
+#[derive(Clone, Copy)]
+enum Thing {
+    // A link, behind that with router 2.
+    Link,
+    Origin,
+    Rule,
+}
+
+// Appends the line of a thing, another one for each place.
+fn push_thing(alloc: Global, text: &mut Vec<u8>, thing: Thing, i: u32) -> Result<(), AllocError> {
+    let line = match thing {
+        Thing::Link => {
+            let peer = i.wrapping_add(3);
+            format!(in alloc; "link {peer} 1\n")
+        }
+        Thing::Origin => format!(in alloc; "origin 1 10.{i}.0.0/16\n"),
+        Thing::Rule => format!(in alloc; "rank 1 10.{i}.0.0/16 1\n"),
+    };
+    push(text, line)
+}
+
+// Appends so many.
+fn push_things(
+    alloc: Global,
+    text: &mut Vec<u8>,
+    thing: Thing,
+    count: u32,
+) -> Result<(), AllocError> {
+    for i in 0..count {
+        push_thing(alloc, text, thing, i)?;
+    }
+    Ok(())
+}
+
+// Routers in a line, and so many things of router 1.
+fn filled(alloc: Global, routers: u32, thing: Thing, count: u32) -> Result<Vec<u8>, AllocError> {
+    let mut text = line_of_routers(alloc, routers)?;
+    push_things(alloc, &mut text, thing, count)?;
+    Ok(text)
+}
+
+// The text is read. With each of these lines behind it, it is refused in that line, for its code.
+fn takes_no_more(
+    rt: &impl Abort,
+    alloc: Global,
+    text: &[u8],
+    line: usize,
+    over: &[(&[u8], Code)],
+) -> Result<(), Fail> {
+    assert!(rt; is_refused(alloc, text, None));
+    for &(last, code) in over {
+        let longer = with_line(alloc, text, last)?;
+        let wanted = Some(Refused { line, code });
+        assert!(rt; is_refused(alloc, longer.as_slice(), wanted), "{last:?}");
     }
     Ok(())
 }
 
 #[test]
 fn links_above_the_limit_are_refused(rt: HostRuntime) -> Result<(), Fail> {
-    let mut links = line_of_routers(rt.alloc(), 20)?;
-    push_links(rt.alloc(), &mut links, 17)?;
-    limits_on_links_in(&rt, rt.alloc(), links.as_slice())
-}
-
-fn limits_on_links_in(rt: &impl Abort, alloc: Global, links: &[u8]) -> Result<(), Fail> {
-    assert!(rt; is_refused(alloc, links, None));
-    assert!(rt; has_code_behind(alloc, links, b"link 1 18", Some(Code::OutOfLimit))?);
-    Ok(())
-}
-
-// Appends origins of so many prefixes.
-fn push_origins(alloc: Global, text: &mut Vec<u8>, count: u32) -> Result<(), AllocError> {
-    for i in 0..count {
-        push(text, format!(in alloc; "origin 1 10.{i}.0.0/16\n"))?;
-    }
-    Ok(())
+    static OVER: [(&[u8], Code); 1] = [(b"link 1 18", Code::OutOfLimit)];
+    let links = filled(rt.alloc(), 20, Thing::Link, 15)?;
+    takes_no_more(&rt, rt.alloc(), links.as_slice(), 55, &OVER)
 }
 
 #[test]
 fn origins_above_the_limit_are_refused(rt: HostRuntime) -> Result<(), Fail> {
-    let mut origins = line_of_routers(rt.alloc(), 1)?;
-    push_origins(rt.alloc(), &mut origins, 256)?;
-    limits_on_origins_in(&rt, rt.alloc(), origins.as_slice())
+    static OVER: [(&[u8], Code); 1] = [(b"origin 1 11.0.0.0/16\n", Code::OutOfLimit)];
+    let origins = filled(rt.alloc(), 1, Thing::Origin, 256)?;
+    takes_no_more(&rt, rt.alloc(), origins.as_slice(), 258, &OVER)
 }
 
-fn limits_on_origins_in(rt: &impl Abort, alloc: Global, origins: &[u8]) -> Result<(), Fail> {
-    assert!(rt; is_refused(alloc, origins, None));
-    let over = with_line(alloc, origins, b"origin 1 11.0.0.0/16\n")?;
-    let wanted = Refused {
-        line: 258,
-        code: Code::OutOfLimit,
-    };
-    assert!(rt; is_refused(alloc, over.as_slice(), Some(wanted)));
-    Ok(())
+#[test]
+fn rules_above_the_limit_are_refused(rt: HostRuntime) -> Result<(), Fail> {
+    static OVER: [(&[u8], Code); 2] = [
+        (b"rank 1 10.7.0.0/16", Code::Repeated),
+        (b"rank 1 11.0.0.0/8", Code::OutOfLimit),
+    ];
+    let rules = filled(rt.alloc(), 1, Thing::Rule, 64)?;
+    takes_no_more(&rt, rt.alloc(), rules.as_slice(), 66, &OVER)
 }
 
 // Appends the paths of a rule of router 20 of twenty: the first is its own, and each other one goes
@@ -160,28 +195,6 @@ fn paths_above_the_limit_are_refused(rt: HostRuntime) -> Result<(), Fail> {
     assert!(rt; has_code_of_rule(alloc, 32, None)?);
     assert!(rt; has_code_of_rule(alloc, 33, Some(Code::OutOfLimit))?);
     assert!(rt; has_code_of_repeat(alloc, Some(Code::Repeated))?);
-    Ok(())
-}
-
-// Appends so many rules of one router.
-fn push_rules(alloc: Global, text: &mut Vec<u8>, count: u32) -> Result<(), AllocError> {
-    for i in 0..count {
-        push(text, format!(in alloc; "rank 1 10.{i}.0.0/16 1\n"))?;
-    }
-    Ok(())
-}
-
-#[test]
-fn rules_above_the_limit_are_refused(rt: HostRuntime) -> Result<(), Fail> {
-    let mut rules = line_of_routers(rt.alloc(), 1)?;
-    push_rules(rt.alloc(), &mut rules, 64)?;
-    limits_on_rules_in(&rt, rt.alloc(), rules.as_slice())
-}
-
-fn limits_on_rules_in(rt: &impl Abort, alloc: Global, rules: &[u8]) -> Result<(), Fail> {
-    assert!(rt; is_refused(alloc, rules, None));
-    assert!(rt; has_code_behind(alloc, rules, b"rank 1 10.7.0.0/16", Some(Code::Repeated))?);
-    assert!(rt; has_code_behind(alloc, rules, b"rank 1 11.0.0.0/8", Some(Code::OutOfLimit))?);
     Ok(())
 }
 
