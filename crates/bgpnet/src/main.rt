@@ -17,13 +17,11 @@ use error_words::{End, Ending, Kept, bound_of, said};
 use std::alloc::Global;
 use std::process::ExitCode;
 use std::str::from_utf8;
-use std::sync::Wait;
-use std::thread::Threads;
 use std::{env, io};
-use text_engines::{IoStopped, Sink, Source, Watched, status, want_of_memory, write_out};
+use text_engines::{IoStopped, Sink, Watched, status, want_of_memory, write_out};
 
 // Why the words behind the program's name were not read.
-#[derive(Drop)]
+#[derive(Clone, Copy)]
 enum WordsError {
     Memory,
     NotText,
@@ -53,31 +51,26 @@ fn ends_of(words: &Result<Vec<String>, WordsError>) -> (&[u8], &[u8]) {
     }
 }
 
-// Runs the program on these words.
-fn run<R, S, T>(
-    rt: &R,
-    alloc: Global,
-    words: &Result<Vec<String>, WordsError>,
-    reader: &mut S,
-    writer: &mut T,
-) -> Result<u8, IoStopped>
-where
-    R: Threads + Wait + Sync,
-    S: Source,
-    T: Sink,
-{
-    let words = match words {
-        Ok(words) => words,
-        Err(WordsError::Memory) => return want_of_memory(writer),
-        Err(WordsError::NotText) => {
+// The words, lent.
+fn lent(alloc: Global, words: &Result<Vec<String>, WordsError>) -> Result<Vec<&str>, WordsError> {
+    match words {
+        Ok(words) => words
+            .iter()
+            .map(|word| word.as_str())
+            .collect(alloc)
+            .map_err(|_| WordsError::Memory),
+        Err(error) => Err(*error),
+    }
+}
+
+// Writes why the words were not read, and answers the status.
+fn refuse<T: Sink>(writer: &mut T, error: WordsError) -> Result<u8, IoStopped> {
+    match error {
+        WordsError::Memory => want_of_memory(writer),
+        WordsError::NotText => {
             write_out(writer, b"error: a word of the command line is no text\n")?;
-            return Ok(status::USAGE);
+            Ok(status::USAGE)
         }
-    };
-    let lent: Result<Vec<&str>, _> = words.iter().map(|word| word.as_str()).collect(alloc);
-    match lent {
-        Ok(lent) => run_with(rt, alloc, lent.as_slice(), reader, writer),
-        Err(_) => want_of_memory(writer),
     }
 }
 
@@ -96,7 +89,10 @@ fn main(rt: HostRuntime) -> ExitCode {
     let (word, name) = ends_of(&words);
     let mut reader = Kept::new(alloc, Watched::new(rt.stdin()), bound_of(word));
     let mut writer = Ending::new(Watched::new(io::writer(&rt)));
-    let ended = run(&rt, alloc, &words, &mut reader, &mut writer);
+    let ended = match lent(alloc, &words) {
+        Ok(words) => run_with(&rt, alloc, words.as_slice(), &mut reader, &mut writer),
+        Err(error) => refuse(&mut writer, error),
+    };
     let status = status_of(ended);
     let end = End {
         word,
