@@ -4,6 +4,8 @@ use Rattle.std.specs.Prelude.{OnOk, OnErr, IfSome, Vec, ◌⊎◌, nat_lt, if◌
 use Rattle.std.proofs.lemmas.Bool.Decides.{nat_tests}
 use Rattle.std.proofs.lemmas.List.{append-nil, length-append, length-take}
 use Rattle.std.specs.Io.KnownBytes.{Appends}
+use Rattle.std.specs.Fn.{Once, FnOnceReturns}
+use denote.Ref.{Bor}
 use Rattle.std.proofs.KnownBytes.{Appends-trans, Appends-nil}
 use Rattle.std.specs.declared.alloc.AllocError.{AllocError}
 use Rattle.bgp_codec.specs.declared.rule.Rule.{Rule}
@@ -11,7 +13,7 @@ use Rattle.text_engines.specs.declared.channel.IoStopped.{IoStopped}
 use Rattle.text_engines.specs.declared.status.TheConstants.{DONE, MEMORY}
 use Rattle.text_engines.specs.declared.transfer.TheConstants.{INPUT_LIMIT}
 use Rattle.text_engines.specs.Decoding.{Output, output, memory_output, WithinLimit, OrMemory, DecodeGives, Prints}
-use Rattle.text_engines.specs.Engine.{ReadsUpTo, AppendsFront, IsMade, WrittenBy, WrittenFrontBy, PrintedBy, PrintedFrontBy, IsAnswered, limit_comment, limited}
+use Rattle.text_engines.specs.Engine.{ReadsUpTo, AppendsFront, IsMade, WrittenBy, WrittenFrontBy, PrintedBy, PrintedFrontBy, IsAnswered, gives_by, limit_comment, limited}
 
 pub one_more : (a b c : Option (List ℕ)) (text : List ℕ) (at n : ℕ) → Appends a b (take at text) → Appends b c (take n (drop at text)) → Appends a c (take (at + n) text)
 one_more a b c text at n first second = subst (Appends a c) (sym (take-add at n text)) (Appends-trans a b c (take at text) (take n (drop at text)) first second)
@@ -143,6 +145,36 @@ pub given_made : {Z : Type 0} (rule : Rule) (known : Option (List ℕ)) (printed
     → IfSome known (λ input. (out : Output) → IsMade {Z = Z} {E = AllocError} (Ok printed) out → Prints rule input out)
 given_made rule None printed gives = tt
 given_made rule (Some input) printed gives = λ out is. inl (subst (DecodeGives rule input) (sym is) gives)
+
+-- ---- an answer that another one allows
+
+module _ (P Q : List ℕ → Output → Type 0) (allows : (text : List ℕ) (out : Output) → P text out → Q text out) where
+  -- what is printed within the limit, or that memory ran out
+  pub or_memory_more : (input : List ℕ) (out : Output) → OrMemory (WithinLimit P) input out → OrMemory (WithinLimit Q) input out
+  or_memory_more input out (inl (inl beyond)) = inl (inl beyond)
+  or_memory_more input out (inl (inr within)) = inl (inr (within.0, allows input out within.1))
+  or_memory_more input out (inr short) = inr short
+
+  printed_more : (known old new : Option (List ℕ)) (status : ℕ) → PrintedBy P known old new status → PrintedBy Q known old new status
+  printed_more None old new status h = tt
+  printed_more (Some input) old new status h = (h.0, allows input (output h.0 status) h.1, h.2)
+
+  front_more : (known old new : Option (List ℕ)) → PrintedFrontBy P known old new → PrintedFrontBy Q known old new
+  front_more None old new h = tt
+  front_more (Some input) old new h = (h.0, allows input h.0 h.1, h.2)
+
+  -- what an engine leaves
+  pub answered_more : (known old new : Option (List ℕ)) (unread now unwritten ended : Bool) (r : Result ℕ IoStopped) → IsAnswered P known old new unread now unwritten ended r → IsAnswered Q known old new unread now unwritten ended r
+  answered_more known old new unread now unwritten ended (Ok status) h =
+      record { done = printed_more known old new status h.done; unfailed = h.unfailed; failed = tt; silent = h.silent; stopped = tt }
+  answered_more known old new unread now unwritten ended (Err stopped) h =
+      record { done = tt; unfailed = tt; failed = h.failed; silent = h.silent; stopped = front_more known old new h.stopped }
+
+-- a closure that was called once at a text within the limit
+pub called : {F Z E : Type 0} (g : Once F (Bor (List ℕ) × Unit {0}) (Result (Vec ℕ Z × ℕ) E)) (answer : F) (text : List ℕ) (p : Bor (List ℕ)) (made : Result (Vec ℕ Z × ℕ) E)
+    → p.now ≡ text → FnOnceReturns g answer (p, tt) made → length text ≤ INPUT_LIMIT → IfOk made (λ printed. WithinLimit (gives_by g answer) text (output printed.0.items printed.1))
+called g answer text p (Ok printed) same met short = inr (short, (printed, (p, met, same), refl))
+called g answer text p (Err want) same met short = tt
 
 -- ---- texts that were printed whole
 

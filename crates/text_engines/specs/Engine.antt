@@ -1,6 +1,8 @@
 -- How an engine reads and writes.
-use Rattle.std.specs.Prelude.{◌≡◌, ◌⊎◌, ℕ, ◌≤◌, nat_lt, Bool, true, false, List, [], ◌++◌, length, take, codes, Option, IfSome, Result, IfOk, OnOk, OnErr, MatchResult, Vec, if◌then◌else◌}
+use Rattle.std.specs.Prelude.{◌≡◌, ◌⊎◌, ℕ, ◌≤◌, nat_lt, Bool, true, false, List, [], ◌++◌, length, take, codes, Option, IfSome, Result, Ok, IfOk, OnOk, OnErr, MatchResult, Vec, if◌then◌else◌}
 use Rattle.std.specs.Io.KnownBytes.{Appends}
+use Rattle.std.specs.Fn.{Once, FnOnceReturnsAt}
+use denote.Ref.{Bor}
 use Rattle.net_text.specs.Printing.{line}
 use Rattle.text_engines.specs.declared.channel.IoStopped.{IoStopped}
 use Rattle.text_engines.specs.declared.transfer.TheConstants.{INPUT_LIMIT}
@@ -17,6 +19,10 @@ AppendsFront old new text = (n : ℕ) × Appends old new (take n text)
 -- what is printed where this text, with its status, was made; or memory ran out
 abbrev pub IsMade : {Z E : Type 0} → Result (Vec ℕ Z × ℕ) E → Output → Type 0
 IsMade made out = MatchResult made (λ printed. out ≡ output printed.0.items printed.1) (λ _. out ≡ memory_output)
+
+-- a closure may answer a text with this output
+abbrev pub gives_by : {F Z E : Type 0} → Once F (Bor (List ℕ) × Unit {0}) (Result (Vec ℕ Z × ℕ) E) → F → List ℕ → Output → Type 0
+gives_by {F} {Z} g answer text out = (printed : Vec ℕ Z × ℕ) × FnOnceReturnsAt g answer text (Ok printed) × (out ≡ output printed.0.items printed.1)
 
 -- a whole output of these was appended, with this status
 abbrev pub WrittenBy : (Output → Type 0) → Option (List ℕ) → Option (List ℕ) → ℕ → Type 0

@@ -7,9 +7,9 @@
 //! (the text of a stream), `Inputs` (a network and a section behind it), `Checking` (the text of a check), `Engine`
 //! (what an engine may leave written), `Digits` (octets in hex), `Hearing` (a stream that is printed as it is read).
 //! The lines themselves are `net_text`'s. What every engine shares is here too: an [`Engine`] says what it answers to a
-//! text, and [`answer_input`] reads the text and writes that answer. One that reads something else, or starts threads,
-//! ends in [`write_output`] behind its own reading. [`refused_output`] and [`text_output`] make the answer to a
-//! refusal, and [`put_limit`] says where an answer is too long to be read again.
+//! text, and [`answer_input`] reads the text and writes that answer. [`answer_by`] does so with a closure, which may
+//! start threads. `decode`, which reads its input by pieces, ends in [`write_output`]. [`refused_output`] and
+//! [`text_output`] make the answer to a refusal, and [`put_limit`] says where an answer is too long to be read again.
 #![tactic(auto)]
 
 mod assignments;
@@ -29,7 +29,7 @@ mod transfer;
 pub use channel::{IoStopped, Sink, Source, Watched};
 pub use check::check_stream;
 pub use decode::decode_stream;
-pub use engine::{Engine, answer_input};
+pub use engine::{Engine, answer_by, answer_input};
 pub use refusals::{refused_output, text_output};
 pub use transfer::{
     INPUT_LIMIT, InputError, put_limit, read_input, want_of_memory, write_out, write_output,

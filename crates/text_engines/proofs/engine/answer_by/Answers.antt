@@ -4,8 +4,8 @@ use Rattle.text_engines.specs.Engine.{gives_by}
 use Rattle.text_engines.proofs.WritingLemmas.{unread_answered, memory_answered, made_answered, limited_made}
 use Rattle.text_engines.proofs.engine.answer_by.Goals as goal
 
-pub returns-in-Err-Stopped : goal.returns-in-Err-Stopped
-returns-in-Err-Stopped g c = unread_answered (OrMemory (WithinLimit (gives_by g.F.FnOnce c.args.answer))) _ _ _ _ _ _ (λ input. inr refl) (c.in-Err-Stopped.ensures.stopped (ap Err c.in-Err-Stopped.field-0-is))
+pub returns : goal.returns
+returns g c = unread_answered (OrMemory (WithinLimit (gives_by g.F.FnOnce c.args.answer))) _ _ _ _ _ _ (λ input. inr refl) (c.in-Err-Stopped.ensures.stopped (ap Err c.in-Err-Stopped.field-0-is))
 
 pub returns-in-Err-Memory : goal.returns-in-Err-Memory
 returns-in-Err-Memory g c =

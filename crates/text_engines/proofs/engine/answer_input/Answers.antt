@@ -1,19 +1,7 @@
-use Rattle.std.proofs.Common.{Err, ap, inr, refl}
-use Rattle.text_engines.specs.Decoding.{WithinLimit, OrMemory}
-use Rattle.text_engines.proofs.WritingLemmas.{unread_answered, memory_answered, made_answered, limited_made}
+use Rattle.std.proofs.Common.{rules}
+use Rattle.text_engines.proofs.WritingLemmas.{answered_more, or_memory_more}
 use Rattle.text_engines.proofs.engine.answer_input.Goals as goal
 
-pub returns-in-Err-Stopped : goal.returns-in-Err-Stopped
-returns-in-Err-Stopped g c = unread_answered (OrMemory (WithinLimit (g.E.Engine.gives c.args.engine.now))) _ _ _ _ _ _ (λ input. inr refl) (c.in-Err-Stopped.ensures.stopped (ap Err c.in-Err-Stopped.field-0-is))
-
-pub returns-in-Err-Memory : goal.returns-in-Err-Memory
-returns-in-Err-Memory g c =
-    let memory = c.want_of_memory.ensures in
-    memory_answered (OrMemory (WithinLimit (g.E.Engine.gives c.args.engine.now))) _ _ _ _ _ _ _ c.want_of_memory.result (λ input. inr refl) (c.in-Err-Memory.ensures.short (ap Err c.in-Err-Memory.field-0-is)) memory.ok memory.stopped memory.failed memory.unfailed
-
-pub returns-in-Ok : goal.returns-in-Ok
-returns-in-Ok g c =
-    let gives = g.E.Engine.gives c.args.engine.now in
-    let made = c.limited_answer.result in
-    let written = c.write_output.ensures in
-    made_answered (OrMemory (WithinLimit (g.E.Engine.gives c.args.engine.now))) _ _ _ _ _ _ _ made c.write_output.result c.in-Ok.ensures.unfailed (limited_made gives _ c.in-Ok.input.items made c.in-Ok.ensures.ok c.limited_answer.ensures) written.done written.stopped written.failed written.unfailed
+pub returns : goal.returns
+returns g c =
+    answered_more _ _ (or_memory_more _ (g.E.Engine.gives c.args.engine.now) (λ text out given. search rules)) _ _ _ _ _ _ _ _ c.answer_by.ensures
