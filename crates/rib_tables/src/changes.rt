@@ -8,7 +8,7 @@ ghost use Rattle.rib_tables.specs.declared.row.Row.{Row};
 ghost use Rattle.rib_tables.specs.declared.word.Word.TheVariants.{Sequence};
 ghost use Rattle.rib_tables.specs.declared.place_set.PlaceSet.{PlaceSet};
 ghost use Rattle.bgp_codec.specs.declared.update.Update.{Update};
-ghost use Rattle.rib_tables.specs.Words.{announced_word, nothing, TellsPath};
+ghost use Rattle.rib_tables.specs.Words.{announced_word, nothing};
 ghost use Rattle.rib_tables.specs.Places.{has};
 ghost use Rattle.rib_tables.specs.Rows.{AreFit, AreWaiting, BestStays, IsWaiting, MarksSpeaking, StaysDecided, on, hearing, hearing_all, hearing_update, telling, keeping, originating, forgetting, clearing};
 
@@ -59,17 +59,6 @@ fn announced_words(alloc: Global, update: &Update) -> Result<Vec<Word>, RibError
     Ok(words)
 }
 
-// Puts the word of a peer for the prefix at a place.
-fn hear_at(rows: &mut Vec<Row>, place: usize, peer: usize, word: Word)
-    requires within { place < length rows.old.items }
-    requires words { (r : Row) → slice_get rows.old.items place ≡ Some r → peer < length r.heard }
-    ensures { (r : Row) → slice_get rows.old.items place ≡ Some r
-        → rows.new.items ≡ slice_set rows.old.items place (hearing peer word r) }
-{
-    let row = &mut rows[place];
-    row.heard.set(peer, word);
-}
-
 // Marks a place as undecided, unless its kept path is known to stay the best when a peer says this
 // word.
 fn mark_heard(router: Asn, row: &Row, peer: usize, word: &Word, place: usize, dirty: &mut PlaceSet)
@@ -99,8 +88,9 @@ pub(crate) fn hear_one(
     ensures dirty { StaysDecided router rows.old.items rows.new.items dirty.old dirty.new }
 {
     if let Some(place) = place_of(keys, prefix) {
-        mark_heard(router, &rows[place], peer, &word, place, dirty);
-        hear_at(rows, place, peer, word);
+        let row = &mut rows[place];
+        mark_heard(router, row, peer, &word, place, dirty);
+        row.heard.set(peer, word);
     }
 }
 
@@ -172,30 +162,6 @@ pub(crate) fn hear_update(
         hear_withdrawn(alloc, router, keys, rows, dirty, peer, update);
         hear_announced(router, keys, rows, dirty, peer, update, words);
     }
-    Ok(())
-}
-
-// Takes a path that a peer tells of one prefix; the empty path is a withdrawal. A refusal leaves
-// all as it was.
-pub(crate) fn hear_path(
-    alloc: Global,
-    router: Asn,
-    keys: &IndexSet<Prefix>,
-    rows: &mut Vec<Row>,
-    dirty: &mut PlaceSet,
-    peer: usize,
-    prefix: &Prefix,
-    path: &[Asn],
-) -> Result<(), RibError>
-    requires { (peers : ℕ) × AreFit keys.now.keys peers rows.old.items × (peer < peers) }
-    ensures rows { OnOk result
-        ((u : Update) → TellsPath u prefix.now path.now → rows.new.items ≡ map (hearing_update peer u) rows.old.items) }
-    ensures dirty { OnOk result (StaysDecided router rows.old.items rows.new.items dirty.old dirty.new) }
-    ensures same_rows { OnErr result (rows.new.items ≡ rows.old.items) }
-    ensures same_dirty { OnErr result (dirty.new ≡ dirty.old) }
-{
-    let word = Word::Sequence(Path::from_slice(alloc, path)?);
-    hear_one(router, keys, rows, dirty, peer, prefix, word);
     Ok(())
 }
 

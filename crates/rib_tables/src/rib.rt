@@ -13,7 +13,7 @@ ghost use Rattle.rib_tables.specs.Choices.{IsBest, IsSources};
 ghost use Rattle.rib_tables.specs.Owners.{sources_of, IsSettled, IsServed, HasWaitingPeer, AllServed, IsPending, IsNew, HearsUpdate, TellsKept, ComesUp, ForgetsPeer, Originating, Withdrawing, Decides, Clears};
 
 use crate::changes::{
-    clear_all, forget_all, hear_path, hear_update, keep_at, mark_words, originate_at, place_of,
+    clear_all, forget_all, hear_one, hear_update, keep_at, mark_words, originate_at, place_of,
     place_of_peer, set_up, tell_at, unadvertised, wait_after_all,
 };
 use crate::opening::{keys_of, no_waits, peers_down, rows_of};
@@ -203,10 +203,10 @@ impl<'a> Rib<'a> {
         ensures err { OnErr result (self.new ≡ self.old) }
     {
         let alloc = *self.peers.allocator();
-        let keys = &self.keys;
+        let word = Word::Sequence(Path::from_slice(alloc, path)?);
         let rows = &mut self.rows;
         let dirty = &mut self.dirty;
-        hear_path(alloc, self.router, keys, rows, dirty, place, prefix, path)?;
+        hear_one(self.router, &self.keys, rows, dirty, place, prefix, word);
         Ok(())
     }
 

@@ -1,13 +1,10 @@
 //! The row of one prefix, and the entry of one peer.
 
 ghost use Rattle.std.specs.Prelude.{◌≡◌, ◌≢◌, ◌<◌, ◌≤◌, ◌↔◌, ◌∷◌, ℕ, [], true, drop, length, slice_get, Some, IfOk, IfSome, IsTrue, MatchOption, if◌then◌else◌};
-ghost use Rattle.prefix_lanes.specs.Bits.{PrefixView};
-ghost use Rattle.ranked_policy.specs.Choices.{IsFirstOrNone, Speaks, path_by};
 ghost use Rattle.ranked_policy.specs.Plans.{Plan, IsNetwork, IsRouter};
-ghost use Rattle.ranked_policy.specs.Policies.{Table, IsTable};
 ghost use Rattle.rib_tables.specs.declared.row.Row.{Row};
 ghost use Rattle.rib_tables.specs.Words.{path_in};
-ghost use Rattle.rib_tables.specs.Rows.{RowHears, IsRow, IsRowBest, AreDecided, AreJudged, AllBest, BestStays, IsFirstUndecided};
+ghost use Rattle.rib_tables.specs.Rows.{IsRow, IsRowBest, AreDecided, AreJudged, AllBest, BestStays, IsFirstUndecided};
 
 use crate::line::Line;
 use crate::place_set::PlaceSet;
@@ -54,28 +51,6 @@ impl Row<'_> {
     }
 }
 
-// The best choice over the words of the Established peers, without the router in front. Empty if
-// there is no choice.
-pub(crate) fn best_onward<'a>(
-    policy: &Chosen,
-    router: Asn,
-    peers: &[Peer],
-    heard: &'a [Word],
-) -> &'a [Asn]
-    requires { length heard.now ≡ length peers.now }
-    ensures { (table : Table) (q : PrefixView) → IsTable table → table.router ≡ router → Speaks policy.now table q
-        → IsFirstOrNone (RowHears peers.now heard.now (length peers.now)) table q (path_by router result.now) }
-{
-    each_policy_is_an_order();
-    let mut best: &[Asn] = &[];
-    for (place, peer) in peers.iter().enumerate() {
-        if peer.up {
-            best = policy.better_onward(router, heard[place].path(), best);
-        }
-    }
-    best
-}
-
 // The best of the router's choices for the prefix of a row, without the router in front. `None` if
 // the best is the empty path. It takes no memory.
 pub(crate) fn best_way<'r>(router: Asn, peers: &[Peer], row: &'r Row) -> Option<&'r [Asn]>
@@ -84,14 +59,18 @@ pub(crate) fn best_way<'r>(router: Asn, peers: &[Peer], row: &'r Row) -> Option<
         → MatchOption result (IsRowBest net router peers.now row.now [])
         (λ rest. IsRowBest net router peers.now row.now (router ∷ rest.now)) }
 {
+    each_policy_is_an_order();
     if row.own {
         return if row.originated { Some(&[]) } else { None };
     }
-    let rest = best_onward(&row.policy, router, peers, row.heard.as_slice());
-    if rest.is_empty() {
-        return None;
+    let heard = row.heard.as_slice();
+    let mut best: &[Asn] = &[];
+    for (place, peer) in peers.iter().enumerate() {
+        if peer.up {
+            best = row.policy.better_onward(router, heard[place].path(), best);
+        }
     }
-    Some(rest)
+    if best.is_empty() { None } else { Some(best) }
 }
 
 // Whether a kept path is the router and then this way; without a way, whether it is the empty path.

@@ -4,7 +4,7 @@ use Rattle.prefix_lanes.specs.Bits.{PrefixView}
 use Rattle.ranked_policy.specs.Policies.{Table, IsTable}
 use Rattle.ranked_policy.specs.Choices.{IsFirstOrNone, Speaks, path_by}
 use Rattle.rib_tables.specs.Rows.{RowHears}
-use Rattle.rib_tables.proofs.row.best_onward.Given as goal
+use Rattle.rib_tables.proofs.row.best_way.Given as goal
 
 abbrev pub invariant-loop-place : goal.invariant-loop-place
-invariant-loop-place l = (table : Table) (q : PrefixView) → IsTable table → table.router ≡ l.router → Speaks l.policy table q → IsFirstOrNone (RowHears l.peers l.heard l.place) table q (path_by l.router l.best)
+invariant-loop-place l = (table : Table) (q : PrefixView) → IsTable table → table.router ≡ l.router → Speaks l.row.policy table q → IsFirstOrNone (RowHears l.peers l.heard l.place) table q (path_by l.router l.best)
