@@ -1,5 +1,7 @@
 -- What each call of a router answers: a step, nothing, or a refusal. A call settles what the definition of a step
 -- leaves open: a put takes as much as it may, and an UPDATE goes to the least peer that waits and has room.
+-- g is a setting, x a router, r one with its stamp, u v routers' numbers, c a command, e an event, i an item, k a
+-- snapshot's number, q a prefix.
 use Rattle.std.specs.Prelude.{ℕ, ◌+◌, ◌≡◌, max, nat_lt, Bool, true, false, ◌&&◌, not, Option, None, Some, is_some, Result, Ok, Err, MatchResult}
 use Rattle.std.specs.List.{find}
 use Rattle.bgp_framing.specs.Held.{is_waiting}
@@ -86,14 +88,14 @@ module _ (g : Setting) (u : ℕ) where
   bars_command x (command.Reset v) = unless (linked g.net u v) error.NoSuchPeer
   bars_command x (command.Originate q) = unless (is_origin g.net.origins u q) error.NotOrigin
   bars_command x (command.Withdraw q) = unless (is_origin g.net.origins u q) error.NotOrigin
-  bars_command x (command.Snapshot s) = unless (is_greater x s) (error.OldSnapshot x.snapshots.last)
+  bars_command x (command.Snapshot k) = unless (is_greater x k) (error.OldSnapshot x.snapshots.last)
   bars_command x command.Restart = None
 
   abbrev pub bars : Router → Call → Option RouterError
   bars x (Obey c) = bars_command x c
   bars x Tick = None
   bars x (Put v) = unless (linked g.net u v) error.NoSuchPeer
-  bars x (Take v stamp what) =
+  bars x (Take v stamp i) =
       first_of (unless (linked g.net u v) error.NoSuchPeer) (unless (not (is_waiting (x.sides v).held)) (error.Held v))
   bars x (Handle v) = unless (linked g.net u v) error.NoSuchPeer
   bars x Decide = None
@@ -109,39 +111,40 @@ module _ (g : Setting) (u : ℕ) where
   event_of x (Obey c) = command_event x c
   event_of x Tick = Some (alone Ticks)
   event_of x (Put v) = put_event v (next_item g.net.settings.cut (x.sides v).outbox)
-  event_of x (Take v stamp what) = Some (takes v what)
+  event_of x (Take v stamp i) = Some (takes v i)
   event_of x (Handle v) = if_so (is_waiting (x.sides v).held) (alone (Handles v))
   event_of x Decide = if_so (is_some (undecided g u x)) (alone Decides)
   event_of x Advertise = advertise_event (find (has_room x) (peers g.net u))
 
   -- the stamp of a call's event: one above the router's last and that of the item
   abbrev pub stamp_of : Stamped → Call → ℕ
-  stamp_of x (Take v stamp what) = max x.stamp stamp + 1
-  stamp_of x _ = x.stamp + 1
+  stamp_of r (Take v stamp i) = max r.stamp stamp + 1
+  stamp_of r _ = r.stamp + 1
 
   abbrev pub overflows_at : Router → Option RouterEvent → Bool
   overflows_at x None = false
   overflows_at x (Some e) = overflows g u x e
 
   abbrev pub answer : Stamped → Call → Answer
-  answer x call =
-      judged (bars x.router call) (event_of x.router call) (nat_lt GREATEST_STAMP (stamp_of x call)) (overflows_at x.router (event_of x.router call))
+  answer r call =
+      judged (bars r.router call) (event_of r.router call) (nat_lt GREATEST_STAMP (stamp_of r call)) (overflows_at r.router (event_of r.router call))
 
   abbrev pub stamped_after : Stamped → Call → RouterEvent → Stamped
-  stamped_after x call e = record { router = after g u x.router e; stamp = stamp_of x call }
+  stamped_after r call e = record { router = after g u r.router e; stamp = stamp_of r call }
 
   -- what a call has to give and to leave: a step is done, or wants memory; any other answer changes nothing
   abbrev pub Gives : Result Stepped RouterError → Answer → Stamped → Call → Stamped → Type 0
-  Gives r (Steps e) x call y =
-      MatchResult r (λ s. (s ≡ stepped.Did) × (y ≡ stamped_after x call e)) (λ why. (why ≡ error.Memory) × (y ≡ x))
-  Gives r Idle x call y = (r ≡ Ok stepped.Nothing) × (y ≡ x)
-  Gives r (Refuses why) x call y = (r ≡ Err why) × (y ≡ x)
+  Gives result (Steps e) r call done =
+      MatchResult result (λ did. (did ≡ stepped.Did) × (done ≡ stamped_after r call e))
+      (λ why. (why ≡ error.Memory) × (done ≡ r))
+  Gives result Idle r call done = (result ≡ Ok stepped.Nothing) × (done ≡ r)
+  Gives result (Refuses why) r call done = (result ≡ Err why) × (done ≡ r)
 
 -- ---- offers
 
 -- the router once its offer is made, by an event with this stamp
 abbrev pub offer_made : Stamped → ℕ → Stamped
-offer_made x stamp = record { router = without_offer x.router; stamp = stamp }
+offer_made r stamp = record { router = without_offer r.router; stamp = stamp }
 
 -- ---- the calls and the steps
 
@@ -150,7 +153,7 @@ abbrev pub IsEventOf : Call → RouterEvent → Type 0
 IsEventOf (Obey c) e = e ≡ alone (Obeys c)
 IsEventOf Tick e = e ≡ alone Ticks
 IsEventOf (Put v) e = (i : What) × (e ≡ puts v i)
-IsEventOf (Take v stamp what) e = e ≡ takes v what
+IsEventOf (Take v stamp i) e = e ≡ takes v i
 IsEventOf (Handle v) e = e ≡ alone (Handles v)
 IsEventOf Decide e = e ≡ alone Decides
 IsEventOf Advertise e = (v : ℕ) × (e ≡ alone (Advertises v))

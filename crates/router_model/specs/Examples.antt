@@ -1,4 +1,5 @@
 -- Small cases that show what the definitions say: two routers of one link, and a router whose peer is hostile.
+-- r is a router with its stamp, u v routers' numbers, e an event, i an item, q a prefix.
 use Rattle.std.specs.Prelude.{ℕ, ◌+◌, ◌≡◌, ◌==◌, false, cond, List, [], ◌∷◌, ◌++◌, length, Option, Some, Ok, Err, replicate}
 use Rattle.marker_lanes.specs.Marker.{marker}
 use Rattle.prefix_lanes.specs.Bits.{PrefixView}
@@ -49,17 +50,17 @@ fresh u = record { router = new_router setting; stamp = 0 }
 
 -- the state that calls leave, and the answer of the next one
 abbrev pub left_by : Stamped → Call → Answer → ℕ → Stamped
-left_by x call (Steps e) u = stamped_after setting u x call e
-left_by x call calls.Idle u = x
-left_by x call (Refuses why) u = x
+left_by r call (Steps e) u = stamped_after setting u r call e
+left_by r call calls.Idle u = r
+left_by r call (Refuses why) u = r
 
 abbrev pub after_calls : ℕ → Stamped → List Call → Stamped
-after_calls u x [] = x
-after_calls u x (c ∷ cs) = after_calls u (left_by x c (answer setting u x c) u) cs
+after_calls u r [] = r
+after_calls u r (call ∷ list) = after_calls u (left_by r call (answer setting u r call) u) list
 
 abbrev pub answers : ℕ → Stamped → List Call → List Answer
-answers u x [] = []
-answers u x (c ∷ cs) = answer setting u x c ∷ answers u (left_by x c (answer setting u x c) u) cs
+answers u r [] = []
+answers u r (call ∷ list) = answer setting u r call ∷ answers u (left_by r call (answer setting u r call) u) list
 
 -- a prefix is originated and decided once; no peer is there to be told; router 2 is no origin
 abbrev pub OriginatesOnce : Type 0
@@ -82,7 +83,7 @@ abbrev pub joined_1 : Stamped
 joined_1 = after_calls 1 dialled_1 (Take 2 4 (item.Dial 1) ∷ [])
 
 abbrev pub item_next : Stamped → ℕ → Option What
-item_next x v = next_item 4096 (x.router.sides v).outbox
+item_next r v = next_item 4096 (r.router.sides v).outbox
 
 abbrev pub StartsAndSaysOpen : Type 0
 StartsAndSaysOpen =
@@ -100,7 +101,7 @@ abbrev pub from_2 : What → Call
 from_2 i = Take 2 0 i
 
 abbrev pub hears : List Call → Stamped
-hears cs = after_calls 1 started cs
+hears list = after_calls 1 started list
 
 -- a faulty header is held until it is handled; its fault is told then, and the incarnation is shut
 abbrev pub faulty : List ℕ
@@ -110,7 +111,7 @@ abbrev pub unmarked_notice : List ℕ
 unmarked_notice = marker ++ 0 ∷ 21 ∷ 3 ∷ 1 ∷ 1 ∷ []
 
 abbrev pub two_puts : Stamped → Option What × Option What
-two_puts x = (item_next x 2, item_next (after_calls 1 x (Put 2 ∷ [])) 2)
+two_puts r = (item_next r 2, item_next (after_calls 1 r (Put 2 ∷ [])) 2)
 
 abbrev pub FaultyHeaderCloses : Type 0
 FaultyHeaderCloses =
@@ -133,7 +134,7 @@ StrayItemsAreDropped =
 
 -- the greatest incarnation is shut: the session waits in Active, and no dial is left as its timer expires
 abbrev pub ticks : ℕ → List Call
-ticks n = replicate n Tick
+ticks count = replicate count Tick
 
 abbrev pub greatest_shut : Stamped
 greatest_shut = hears (from_2 (item.Dial 4294967295) ∷ from_2 (item.Shut 4294967295) ∷ [])
@@ -193,7 +194,7 @@ StrangePathCloses =
 -- ---- the order of judging at the last stamp: what bars a call, and that there is nothing to do, come before it
 
 abbrev pub at_last_stamp : Stamped → Stamped
-at_last_stamp x = record x { stamp = 4611686018427387904 }
+at_last_stamp r = record r { stamp = 4611686018427387904 }
 
 -- router 1 originates the prefix, and keeps its path
 abbrev pub decided : Stamped
@@ -223,7 +224,7 @@ abbrev pub told_late : Stamped
 told_late = after_calls 1 established (Tick ∷ Obey (command.Originate p) ∷ Decide ∷ Advertise ∷ [])
 
 abbrev pub keepalive_of : Stamped → ℕ
-keepalive_of x = (x.router.sides 2).session.keepalive_timer
+keepalive_of r = (r.router.sides 2).session.keepalive_timer
 
 abbrev pub TellingSetsTheTimer : Type 0
 TellingSetsTheTimer =
@@ -256,14 +257,15 @@ AnnouncementWins =
 -- ---- the limit of an outbox: router 1 waits to tell router 2, and so many octets wait to be put
 
 abbrev pub up_side : ℕ → Side
-up_side n = record (new_side setting) {
+up_side count = record (new_side setting) {
   session = record (new_side setting).session { state = Established };
   link = record { epoch = 1; heard = 1; heard_is_shut = false; phase = Joined };
-  outbox = octets_of 1 (replicate n 0);
+  outbox = octets_of 1 (replicate count 0);
 }
 
 abbrev pub waiting_behind : ℕ → Stamped
-waiting_behind n = record { router = record (new_router setting) { sides = λ v. up_side n; kept = λ q. 1 ∷ [] }; stamp = 9 }
+waiting_behind count =
+    record { router = record (new_router setting) { sides = λ v. up_side count; kept = λ q. 1 ∷ [] }; stamp = 9 }
 
 abbrev pub TellsBelowTheLimit : Type 0
 TellsBelowTheLimit =

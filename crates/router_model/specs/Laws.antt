@@ -1,4 +1,6 @@
 -- Laws of the definitions of one router.
+-- g is a setting, x y a router before and behind, r one with its stamp, u v w routers' numbers, e an event, i an item,
+-- k a snapshot's number, n an incarnation.
 use Rattle.std.specs.Prelude.{ℕ, ◌≡◌, ◌≢◌, ◌<◌, max, nat_eq, true, false, ◌++◌, List, [], ◌∷◌}
 use Rattle.std.specs.List.{list_any}
 use Rattle.bgp_codec.specs.declared.message.Message.{Message}
@@ -46,14 +48,14 @@ StepsAppendWhatTheySay =
 -- if a call answers a step, it is a step of an event that the call can be
 abbrev pub AnswersAreSteps : Type 0
 AnswersAreSteps =
-    (g : Setting) → IsNetwork g.net → (u : ℕ) (x : Stamped) (call : Call) (e : RouterEvent)
-    → answer g u x call ≡ Steps e → IsEventOf call e × Step g u x.router e (after g u x.router e)
+    (g : Setting) → IsNetwork g.net → (u : ℕ) (r : Stamped) (call : Call) (e : RouterEvent)
+    → answer g u r call ≡ Steps e → IsEventOf call e × Step g u r.router e (after g u r.router e)
 
 -- a call is idle only if none of the events that it can be may come
 abbrev pub IdleWhereNothingMayCome : Type 0
 IdleWhereNothingMayCome =
-    (g : Setting) → IsNetwork g.net → (u : ℕ) (x : Stamped) (call : Call)
-    → answer g u x call ≡ Idle → (e : RouterEvent) → IsEventOf call e → May g u x.router e → ⊥
+    (g : Setting) → IsNetwork g.net → (u : ℕ) (r : Stamped) (call : Call)
+    → answer g u r call ≡ Idle → (e : RouterEvent) → IsEventOf call e → May g u r.router e → ⊥
 
 -- the history of UPDATEs sent, incarnation by incarnation, is that of the UPDATEs said: only an Advertise says one, and
 -- it joins the history
@@ -64,23 +66,23 @@ SentIsWhatIsSaid =
 
 -- the numbers of an item have 32 bits, as its type in the code says
 abbrev pub HasNumbers : What → Type 0
-HasNumbers (item.Dial e) = fits e ≡ true
-HasNumbers (item.Piece e octets) = Unit {0}
-HasNumbers (item.Mark e s) = Unit {0}
-HasNumbers (item.Shut e) = Unit {0}
+HasNumbers (item.Dial n) = fits n ≡ true
+HasNumbers (item.Piece n octets) = Unit {0}
+HasNumbers (item.Mark n k) = Unit {0}
+HasNumbers (item.Shut n) = Unit {0}
 
 -- whatever a peer hands in is taken, if no message of the peer waits to be handled and a stamp is left
 abbrev pub AnyItemIsTaken : Type 0
 AnyItemIsTaken =
-    (g : Setting) (u v stamp : ℕ) (x : Stamped) (i : What) → linked g.net u v ≡ true → HasNumbers i
-    → is_waiting (x.router.sides v).held ≡ false → max x.stamp stamp < GREATEST_STAMP
-    → answer g u x (Take v stamp i) ≡ Steps (takes v i)
+    (g : Setting) (u v stamp : ℕ) (r : Stamped) (i : What) → linked g.net u v ≡ true → HasNumbers i
+    → is_waiting (r.router.sides v).held ≡ false → max r.stamp stamp < GREATEST_STAMP
+    → answer g u r (Take v stamp i) ≡ Steps (takes v i)
 
 -- a message or a fault that waits is handled
 abbrev pub WhatWaitsIsHandled : Type 0
 WhatWaitsIsHandled =
-    (g : Setting) (u v : ℕ) (x : Stamped) → linked g.net u v ≡ true → is_waiting (x.router.sides v).held ≡ true → x.stamp < GREATEST_STAMP
-    → answer g u x (Handle v) ≡ Steps (alone (Handles v))
+    (g : Setting) (u v : ℕ) (r : Stamped) → linked g.net u v ≡ true → is_waiting (r.router.sides v).held ≡ true → r.stamp < GREATEST_STAMP
+    → answer g u r (Handle v) ≡ Steps (alone (Handles v))
 
 -- a put may change places with each event that puts nothing in its direction: runs pass through their cuts
 abbrev pub RouterPutsCommute : Type 0

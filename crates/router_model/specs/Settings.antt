@@ -1,4 +1,5 @@
 -- The network as a router sees it, and how routers choose (Griffin, Shepherd and Wilfong 2002).
+-- g is a setting, u v routers' numbers, q a prefix.
 use Rattle.std.specs.Prelude.{ℕ, ◌<◌, ◌^◌, ◌==◌, Bool, ◌&&◌, cond, List, [], ◌∷◌, map}
 use Rattle.std.specs.List.{list_any}
 use Rattle.prefix_lanes.specs.Bits.{PrefixView, is_prefix}
@@ -28,21 +29,21 @@ pub record IsSetting (g : Setting) : Type 0 where
 
 -- u is a router of the network
 abbrev pub is_router : Setting → ℕ → Bool
-is_router g u = list_any (λ n. u == n) (numbers g.net.routers)
+is_router g u = list_any (λ v. u == v) (numbers g.net.routers)
 
 -- the network names an origin of the prefix
 abbrev pub names : List Origin → PrefixView → Bool
-names origins q = list_any (λ o. is_prefix o.prefix q) origins
+names origins q = list_any (λ origin. is_prefix origin.prefix q) origins
 
 -- the network names router u as an origin of the prefix
 abbrev pub is_origin : List Origin → ℕ → PrefixView → Bool
-is_origin origins u q = list_any (λ o. is_prefix o.prefix q && (o.router == u)) origins
+is_origin origins u q = list_any (λ origin. is_prefix origin.prefix q && (origin.router == u)) origins
 
 -- the prefixes that the network names, rising
 abbrev pub prefixes : Setting → List PrefixView
-prefixes g = map (λ o. o.prefix) g.net.origins
+prefixes g = map (λ origin. origin.prefix) g.net.origins
 
 -- the BGP Identifier of a router (RFC 4271 section 1.1)
 abbrev pub identifier : List network.NetRouter → ℕ → ℕ
 identifier [] u = 0
-identifier (r ∷ rs) u = cond (r.asn == u) r.id (identifier rs u)
+identifier (router ∷ others) u = cond (router.asn == u) router.id (identifier others u)

@@ -1,5 +1,6 @@
 -- A router as plain data: its sides, its kept paths, what it originates and what it records, and what follows from these. It has
 -- no stamps, tables or buffers: words are those of the histories (RFC 4271 section 3.2), and routes those of the words.
+-- g is a setting, x a router, u v routers' numbers, s a side, n an incarnation, q a prefix.
 use Rattle.std.specs.Prelude.{ℕ, nat_eq, nat_le, Bool, false, ◌&&◌, ◌||◌, not, cond, List, [], ◌∷◌, Option, None, Some}
 use Rattle.std.specs.List.{find, list_any}
 use Rattle.std.specs.Cmp.Lexicographic.{pointwise}
@@ -84,7 +85,7 @@ last_told s q = last_word nothing (s.sent s.link.epoch) q
 -- ---- routes, and what waits
 
 abbrev pub same_path : List ℕ → List ℕ → Bool
-same_path a b = pointwise nat_eq a b
+same_path path other = pointwise nat_eq path other
 
 module _ (g : Setting) (u : ℕ) where
   -- the path heard from a peer whose session is Established, the empty one from every other
@@ -125,8 +126,8 @@ new_side g = record {
   link = links.opening;
   outbox = [];
   held = [];
-  acted = λ e. [];
-  sent = λ e. [];
+  acted = λ n. [];
+  sent = λ n. [];
   width = g.net.settings.width;
 }
 

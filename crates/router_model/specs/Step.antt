@@ -1,5 +1,7 @@
 -- The steps of one router: where each event may come, and what it leaves. The event itself has what a router may
 -- choose: how many octets a put takes, and which peer is told an UPDATE.
+-- g is a setting, x y a router before and behind, u v w routers' numbers, s a side, a a draft, c a command, e an event,
+-- f a session's, h what is at hand, i an item, z a sign, k a snapshot's number, n an incarnation, q a prefix, b a Bool.
 use Rattle.std.specs.Prelude.{ℕ, ◌≡◌, ◌≤◌, ◌==◌, nat_lt, Bool, true, false, ◌&&◌, not, cond, List, [], ◌∷◌, length, drop, slice_get, Option, None, Some, is_some}
 use Rattle.std.specs.List.{list_any}
 use mathlib.Core.List.{IsPrefix}
@@ -37,20 +39,20 @@ RouterEvent = Event Own What MadeOffer
 
 -- a piece has at least one octet, and at most so many
 abbrev pub HasSize : ℕ → What → Type 0
-HasSize cut (item.Piece e octets) = (1 ≤ length octets) × (length octets ≤ cut)
-HasSize cut (item.Dial e) = Unit {0}
-HasSize cut (item.Mark e s) = Unit {0}
-HasSize cut (item.Shut e) = Unit {0}
+HasSize cut (item.Piece n octets) = (1 ≤ length octets) × (length octets ≤ cut)
+HasSize cut (item.Dial n) = Unit {0}
+HasSize cut (item.Mark n k) = Unit {0}
+HasSize cut (item.Shut n) = Unit {0}
 
 -- ---- changes of a router
 
 abbrev pub with_side : Router → ℕ → (Side → Side) → Router
-with_side x v change = record x { sides = λ y. cond (y == v) (change (x.sides y)) (x.sides y) }
+with_side x v change = record x { sides = λ w. cond (w == v) (change (x.sides w)) (x.sides w) }
 
 -- the peer and the incarnation of a draft that leaves Established, and of the first of several peers' drafts that does
 abbrev pub close_at : ℕ → Option ℕ → Option (ℕ × ℕ)
 close_at v None = None
-close_at v (Some e) = Some (v, e)
+close_at v (Some n) = Some (v, n)
 
 abbrev pub or_first : Option (ℕ × ℕ) → Option (ℕ × ℕ) → Option (ℕ × ℕ)
 or_first None other = other
@@ -62,32 +64,32 @@ first_close (v ∷ vs) drafts = or_first (close_at v (drafts v).left) (first_clo
 
 -- an UPDATE that is acted on joins the recorded channel of its peer
 abbrev pub seen : Bool → AtHand → ℕ → Snapshots → Snapshots
-seen true (HasUpdate u) v x = acted_on v (UpdateMsg u) x
-seen true NoMessage v x = x
-seen true (HasFault fault) v x = x
-seen false h v x = x
+seen true (HasUpdate update) v snapshots = acted_on v (UpdateMsg update) snapshots
+seen true NoMessage v snapshots = snapshots
+seen true (HasFault fault) v snapshots = snapshots
+seen false h v snapshots = snapshots
 
 -- the draft of one side is carried out; a side that leaves Established loses the recording
 abbrev pub moved : Router → ℕ → AtHand → Draft → Router
 moved x v h a = record x {
-  sides = λ y. cond (y == v) (carried h (x.sides y) a) (x.sides y);
+  sides = λ w. cond (w == v) (carried h (x.sides w) a) (x.sides w);
   snapshots = seen a.acts h v (closed (close_at v a.left) x.snapshots);
 }
 
 -- an item is put: it was in front of the outbox
 abbrev pub put_from : Side → What → Side
-put_from s x = record s { outbox = drop (length (passes x)) s.outbox }
+put_from s i = record s { outbox = drop (length (passes i)) s.outbox }
 
 abbrev pub originating : Router → PrefixView → Bool → Router
-originating x q b = record x { originated = λ p. cond (is_prefix q p) b (x.originated p) }
+originating x q b = record x { originated = λ other. cond (is_prefix q other) b (x.originated other) }
 
 abbrev pub keeping : Router → Option PrefixView → (PrefixView → List ℕ) → Router
-keeping x None path = x
-keeping x (Some q) path = record x { kept = λ p. cond (is_prefix q p) (path q) (x.kept p) }
+keeping x None path_of = x
+keeping x (Some q) path_of = record x { kept = λ other. cond (is_prefix q other) (path_of q) (x.kept other) }
 
 abbrev pub telling_to : Router → ℕ → Option PrefixView → (PrefixView → Update) → Router
-telling_to x v None update = x
-telling_to x v (Some q) update = with_side x v (λ s. told s (update q))
+telling_to x v None update_of = x
+telling_to x v (Some q) update_of = with_side x v (λ s. told s (update_of q))
 
 abbrev pub forgetting : Router → Router
 forgetting x = record x { kept = λ q. []; originated = λ q. false }
@@ -99,7 +101,7 @@ awaits_marker (Some first) v = not (v == first)
 
 -- the number is above the last recorded one
 abbrev pub is_greater : Router → ℕ → Bool
-is_greater x s = nat_lt x.snapshots.last s
+is_greater x k = nat_lt x.snapshots.last k
 
 -- the offer that waits in front, and the router once that offer is made
 abbrev pub next_offer : Router → Option RouterOffer
@@ -115,7 +117,7 @@ module _ (g : Setting) (u : ℕ) where
   -- ---- the drafts of its events
 
   abbrev pub meets_at : Router → ℕ → FsmEvent → Draft
-  meets_at x v e = draft_event (open_of g.net u) (x.sides v) e
+  meets_at x v f = draft_event (open_of g.net u) (x.sides v) f
 
   abbrev pub resets_at : Router → ℕ → Draft
   resets_at x v = draft_reset (open_of g.net u) (x.sides v)
@@ -124,7 +126,7 @@ module _ (g : Setting) (u : ℕ) where
   second_at x v = draft_second (open_of g.net u) (x.sides v)
 
   abbrev pub signed_at : Router → ℕ → Sign → Draft
-  signed_at x v s = draft_sign (open_of g.net u) (x.sides v) s
+  signed_at x v z = draft_sign (open_of g.net u) (x.sides v) z
 
   abbrev pub handled_at : Router → ℕ → Draft
   handled_at x v = draft_message (open_of g.net u) (front (rule_of g.net u v) (x.sides v).held) (x.sides v)
@@ -152,32 +154,32 @@ module _ (g : Setting) (u : ℕ) where
   }
 
   abbrev pub recording_of : Router → ℕ → Option ℕ → Recording
-  recording_of x s first = record { number = s; part = recorded_part x; waits = awaits_marker first }
+  recording_of x k first = record { number = k; part = recorded_part x; waits = awaits_marker first }
 
   -- the recording takes the state as it is; markers go to every Established peer, behind all that was appended before
   abbrev pub records : Router → ℕ → Option ℕ → Router
-  records x s first = record x {
-    sides = λ v. cond (linked g.net u v && is_up (x.sides v)) (marked s (x.sides v)) (x.sides v);
-    snapshots = begun (peers g.net u) (λ v. is_up (x.sides v)) (recording_of x s first) x.snapshots;
+  records x k first = record x {
+    sides = λ v. cond (linked g.net u v && is_up (x.sides v)) (marked k (x.sides v)) (x.sides v);
+    snapshots = begun (peers g.net u) (λ v. is_up (x.sides v)) (recording_of x k first) x.snapshots;
   }
 
   -- a marker is heeded in Established alone, for the incarnation that the end joined
   abbrev pub heeds : Router → ℕ → ℕ → Bool
-  heeds x v e = is_up (x.sides v) && uses (x.sides v).link e
+  heeds x v n = is_up (x.sides v) && uses (x.sides v).link n
 
   -- a greater number is recorded; any other may end a channel
   abbrev pub marked_by : Router → ℕ → ℕ → Router
-  marked_by x v s =
-      cond (is_greater x s) (records x s (Some v))
-      (record x { snapshots = ends_channel (peers g.net u) v s x.snapshots.unfinished x.snapshots })
+  marked_by x v k =
+      cond (is_greater x k) (records x k (Some v))
+      (record x { snapshots = ends_channel (peers g.net u) v k x.snapshots.unfinished x.snapshots })
 
   -- ---- an item is taken
 
   abbrev pub taken : Router → ℕ → What → Router
-  taken x v (item.Dial e) = moved x v NoMessage (signed_at x v (sign.Dial e))
-  taken x v (item.Piece e octets) = with_side x v (λ s. fed s e octets)
-  taken x v (item.Mark e s) = cond (heeds x v e) (marked_by x v s) x
-  taken x v (item.Shut e) = moved x v NoMessage (signed_at x v (sign.Shut e))
+  taken x v (item.Dial n) = moved x v NoMessage (signed_at x v (sign.Dial n))
+  taken x v (item.Piece n octets) = with_side x v (λ s. fed s n octets)
+  taken x v (item.Mark n k) = cond (heeds x v n) (marked_by x v k) x
+  taken x v (item.Shut n) = moved x v NoMessage (signed_at x v (sign.Shut n))
 
   -- ---- the steps
 
@@ -187,7 +189,7 @@ module _ (g : Setting) (u : ℕ) where
   obeyed x (command.Reset v) = moved x v NoMessage (resets_at x v)
   obeyed x (command.Originate q) = originating x q true
   obeyed x (command.Withdraw q) = originating x q false
-  obeyed x (command.Snapshot s) = records x s None
+  obeyed x (command.Snapshot k) = records x k None
   obeyed x command.Restart = forgetting (all_moved x (λ v. meets_at x v ManualStop))
 
   -- where an event may come: to originate twice, or to withdraw what is not originated, is no event; a message is
@@ -198,7 +200,7 @@ module _ (g : Setting) (u : ℕ) where
   MayObey x (command.Reset v) = linked g.net u v ≡ true
   MayObey x (command.Originate q) = (is_origin g.net.origins u q ≡ true) × (x.originated q ≡ false)
   MayObey x (command.Withdraw q) = (is_origin g.net.origins u q ≡ true) × (x.originated q ≡ true)
-  MayObey x (command.Snapshot s) = is_greater x s ≡ true
+  MayObey x (command.Snapshot k) = is_greater x k ≡ true
   MayObey x command.Restart = Unit {0}
 
   abbrev pub May : Router → RouterEvent → Type 0
@@ -231,7 +233,7 @@ module _ (g : Setting) (u : ℕ) where
   overflows_by x _ = false
 
   abbrev pub overflows_taking : Router → ℕ → What → Bool
-  overflows_taking x v (item.Dial e) = (signed_at x v (sign.Dial e)).overflows
+  overflows_taking x v (item.Dial n) = (signed_at x v (sign.Dial n)).overflows
   overflows_taking x v _ = false
 
   abbrev pub overflows : Router → RouterEvent → Bool
@@ -249,7 +251,7 @@ module _ (g : Setting) (u : ℕ) where
   -- ---- what a step appends towards a peer
 
   abbrev pub says_markers : Router → ℕ → ℕ → List (Entry Message)
-  says_markers x s v = says_where (linked g.net u v && is_up (x.sides v)) (Mark (x.sides v).link.epoch s ∷ [])
+  says_markers x k v = says_where (linked g.net u v && is_up (x.sides v)) (Mark (x.sides v).link.epoch k ∷ [])
 
   abbrev pub says_by : Router → Command → ℕ → List (Entry Message)
   says_by x (command.Start w) v = says_where (v == w) (meets_at x w ManualStart).says
@@ -257,14 +259,14 @@ module _ (g : Setting) (u : ℕ) where
   says_by x (command.Reset w) v = says_where (v == w) (resets_at x w).says
   says_by x (command.Originate q) v = []
   says_by x (command.Withdraw q) v = []
-  says_by x (command.Snapshot s) v = says_markers x s v
+  says_by x (command.Snapshot k) v = says_markers x k v
   says_by x command.Restart v = says_where (linked g.net u v) (meets_at x v ManualStop).says
 
   abbrev pub says_of_taken : Router → ℕ → What → ℕ → List (Entry Message)
-  says_of_taken x w (item.Dial e) v = says_where (v == w) (signed_at x w (sign.Dial e)).says
-  says_of_taken x w (item.Piece e octets) v = []
-  says_of_taken x w (item.Mark e s) v = says_where (heeds x w e && is_greater x s) (says_markers x s v)
-  says_of_taken x w (item.Shut e) v = says_where (v == w) (signed_at x w (sign.Shut e)).says
+  says_of_taken x w (item.Dial n) v = says_where (v == w) (signed_at x w (sign.Dial n)).says
+  says_of_taken x w (item.Piece n octets) v = []
+  says_of_taken x w (item.Mark n k) v = says_where (heeds x w n && is_greater x k) (says_markers x k v)
+  says_of_taken x w (item.Shut n) v = says_where (v == w) (signed_at x w (sign.Shut n)).says
 
   abbrev pub says_update : Router → ℕ → Option PrefixView → List (Entry Message)
   says_update x v None = []
