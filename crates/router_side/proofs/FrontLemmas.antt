@@ -17,7 +17,7 @@ use Rattle.bgp_codec.specs.Reading.{◌>>=◌}
 use Rattle.bgp_codec.specs.Spelling.{WrittenHasAHeader}
 use Rattle.bgp_codec.specs.Updates.{missing, is_from}
 use Rattle.bgp_codec.specs.UpdateReading.{update_fault, prefixes_reading, attrs_reading, announced_by, nlri_reading, withdrawn_len, attrs_len, update_of, parts_reading, update_reading}
-use Rattle.router_model.specs.Sides.{HasUpdate, notification_of, at_hand, front, read_front}
+use Rattle.router_model.specs.Sides.{HasUpdate, notification_of, at_hand, front, read_front, rest_behind}
 use Rattle.router_side.specs.Sayings.{nobody, IsSayable}
 use Rattle.router_side.specs.SideOf.{naming}
 
@@ -116,3 +116,10 @@ pub frame_fits : HeaderIsItsFront → (octets : List ℕ) → IsFrame octets →
 frame_fits its octets is =
     let bounds = (its 19 octets (omega arith)).bounds is.good in
     omega (arith, is.whole, bounds.1)
+
+-- behind it stands what is left
+pub front_dropped : HeaderIsItsFront → (octets : List ℕ) (end : ℕ) → end ≤ length octets → IsFrame (take end octets) → drop (length_field octets) octets ≡ rest_behind (header_fault octets) octets
+front_dropped its octets end inside is =
+    let len : length (take end octets) ≡ end = length-take-le end octets inside in
+    let at = its end octets (omega (arith, len, is.has_header)) in
+    ap (λ (f : Option Fault). rest_behind f octets) (sym is.good ∙ at.same_fault)

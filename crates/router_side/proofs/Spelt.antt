@@ -1,24 +1,21 @@
 -- The octets of what tells a path, put piece by piece.
-use Rattle.std.proofs.Common.{◌≡◌, ℕ, suc, ◌+◌, ◌*◌, ◌≤◌, Bool, true, false, cond, List, [], ◌∷◌, ◌++◌, length, get_or, take, drop, refl, sym, ap, ◌∙◌, append_assoc, length-append, arith}
-use Rattle.std.specs.Prelude.{nat_le, not, Option, None, Some}
-use Rattle.std.specs.Cmp.Lexicographic.{same_text}
+use Rattle.std.proofs.Common.{◌≡◌, ℕ, suc, ◌+◌, ◌*◌, ◌≤◌, Bool, true, false, List, [], ◌∷◌, ◌++◌, length, get_or, take, drop, refl, sym, ap, ◌∙◌, append_assoc, length-append, arith}
+use Rattle.std.specs.Prelude.{nat_le}
 use Rattle.std.specs.List.{flat_map, AllByRecursion, IsSplitAt}
 use Rattle.std.specs.Int.{w16, w32, to_be_bytes}
 use Rattle.std.proofs.lemmas.Bool.{lt-leb}
-use Rattle.std.proofs.lemmas.List.{append-nil, length-take-le, take-append-drop, take-append-le}
+use Rattle.std.proofs.lemmas.List.{append-nil, length-take-le, take-append-drop}
 use Rattle.bgp_values.specs.declared.width.Width.{Width}
 use Rattle.bgp_values.specs.declared.width.Width.TheVariants.{Two, Four}
 use Rattle.marker_lanes.specs.Marker.{marker}
 use Rattle.prefix_lanes.specs.Bits.{PrefixView, IsCanonical}
-use Rattle.bgp_codec.specs.declared.fault.Fault.{Fault}
 use Rattle.bgp_codec.specs.declared.message.Message.TheVariants.{UpdateMsg}
-use Rattle.bgp_codec.specs.Header.{header_fault, begins_with_marker, fault_of, IsFrame}
 use Rattle.bgp_codec.specs.AsNumbers.{asn_size, asn_octets, AsnFits}
 use Rattle.bgp_codec.specs.Updates.{octet_count, attr_octets, raw_of}
 use Rattle.bgp_codec.specs.Spelling.{header_of, framed, written}
 use Rattle.router_model.specs.State.{withdrawal, announcement, telling}
 use Rattle.router_side.specs.Histories.{spelt_by, PutsBehind}
-use Rattle.router_side.specs.Layout.{marked, field, address, withdrawal_front, announcement_head, announcement_start, announcement_front, announcement_hop}
+use Rattle.router_side.specs.Layout.{marked, field, address, withdrawal_front, announcement_start, announcement_front, announcement_hop}
 use Rattle.router_side.specs.Sayings.{IsSayable}
 
 pub numbers_length : (w : Width) (ns : List ℕ) → length (flat_map (asn_octets w) ns) ≡ asn_size w * length ns
@@ -104,30 +101,10 @@ front_parts count m l =
     let more : 14 + (2 + m) ≡ 16 + m = omega arith in
     ap (λ (n : ℕ). marked (field (40 + m + l) (2 ∷ 0 ∷ 0 ∷ field n (64 ∷ 1 ∷ 1 ∷ 0 ∷ 64 ∷ 2 ∷ (2 + m) ∷ 2 ∷ count ∷ [])))) more
 
-marked_is : (xs : List ℕ) → marked xs ≡ marker ++ xs
-unfolding marker
-marked_is xs = refl
-
-passes : (b : Bool) (f : Fault) (rest : Option Fault) → cond (not b) (Some f) rest ≡ None → b ≡ true
-passes true f rest e = refl
-passes false f rest e = absurd cc
-
-is_marked : (octets : List ℕ) → header_fault octets ≡ None → begins_with_marker octets ≡ true
-unfolding header_fault
-is_marked octets e = passes (begins_with_marker octets) (fault_of 1 1 []) _ e
-
-marker_in_front : (octets : List ℕ) → begins_with_marker octets ≡ true → take 16 octets ≡ marker
-unfolding begins_with_marker marker
-marker_in_front octets t = sym (same_text marker (take 16 octets) (sym t))
-
 -- a frame that has it is spelt without it
-pub frame_spelt : (frame front rest head : List ℕ) → IsFrame frame → IsSplitAt frame 29 front rest → head ≡ drop 16 front → head ≡ announcement_head (length frame) (get_or rest 0 0) → spelt_by true (length frame) rest ≡ frame
-frame_spelt frame front rest head is s h e =
-    let whole : front ++ rest ≡ frame = ap (λ (f : List ℕ). f ++ rest) s.1 ∙ ap (λ (b : List ℕ). take 29 frame ++ b) s.2 ∙ take-append-drop 29 frame in
-    let mark : take 16 front ≡ marker = sym (take-append-le 16 front rest (omega (arith, s.3))) ∙ ap (take 16) whole ∙ marker_in_front frame (is_marked frame is.good) in
-    ap (λ (xs : List ℕ). xs ++ rest)
-    (marked_is (announcement_head (length frame) (get_or rest 0 0)) ∙ ap (λ (xs : List ℕ). marker ++ xs) (sym e ∙ h) ∙ ap (λ (xs : List ℕ). xs ++ drop 16 front) (sym mark) ∙ take-append-drop 16 front)
-    ∙ whole
+pub frame_spelt : (frame front rest : List ℕ) → IsSplitAt frame 29 front rest → front ≡ announcement_start (length frame) (get_or rest 0 0) → spelt_by true (length frame) rest ≡ frame
+frame_spelt frame front rest s e =
+    ap (λ (f : List ℕ). f ++ rest) (sym e ∙ s.1) ∙ ap (λ (b : List ℕ). take 29 frame ++ b) s.2 ∙ take-append-drop 29 frame
 
 -- ---- an announcement
 

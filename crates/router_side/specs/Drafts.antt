@@ -1,4 +1,5 @@
 -- A draft of the code as a draft of the definitions.
+-- a is a draft, h what is at hand.
 use Rattle.std.specs.Prelude.{false, [], None}
 use Rattle.session_fsm.specs.Table.{SessionView}
 use Rattle.link_epoch.specs.Ends.{LinkView}
@@ -15,10 +16,10 @@ hand (given.Fault notice) = HasFault (record { code = notice.code; sub = notice.
 hand (given.Update update) = HasUpdate update
 
 abbrev pub draft : Message → AtHand → SideDraft → Draft
-draft own_open g a = record {
+draft own_open h a = record {
   session = a.session;
   link = a.link;
-  says = all_entries own_open (told_of g) a.says;
+  says = all_entries own_open (told_of h) a.says;
   drops = a.drops;
   acts = a.acts;
   left = a.left;

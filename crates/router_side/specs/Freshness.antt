@@ -1,4 +1,5 @@
 -- The history of a side by incarnation: it is empty before the session of an incarnation is Established, and stays so.
+-- s is a side, a a draft, h what is at hand, z a sign, n an incarnation.
 use Rattle.std.specs.Prelude.{ℕ, ◌≡◌, ◌<◌, ◌≤◌, Bool, true, false, [], ◌⊎◌}
 use Rattle.bgp_codec.specs.declared.message.Message.{Message}
 use Rattle.link_epoch.specs.declared.link_end.Phase.TheVariants.{Shut}
@@ -62,20 +63,21 @@ SessionsKeepFresh = (own_open : Message) (s : Side) → IsFresh s → EventsKeep
 -- a Dial or a Shut of the peer that is taken leaves a side fresh, if no dial passes the greatest incarnation
 abbrev pub SignsKeepFresh : Type 0
 SignsKeepFresh =
-    (own_open : Message) (s : Side) (x : Sign) → IsFresh s → (draft_sign own_open s x).overflows ≡ false
-    → KeepsFresh s NoMessage (draft_sign own_open s x)
+    (own_open : Message) (s : Side) (z : Sign) → IsFresh s → (draft_sign own_open s z).overflows ≡ false
+    → KeepsFresh s NoMessage (draft_sign own_open s z)
 
 -- a draft that acts on an UPDATE begins and ends in Established, in one incarnation
 abbrev pub ActsWhereUp : Side → Draft → Type 0
 ActsWhereUp s a = a.acts ≡ true → (is_up s ≡ true) × (is_established a.session.state ≡ true) × (a.link.epoch ≡ s.link.epoch)
 
 -- a message or a fault that is handled leaves a side fresh, and dials nothing
-pub record HandlingKeepsFresh (own_open : Message) (m : Result Message Fault) (s : Side) : Type 0 where
-  pub fits : (draft_message own_open m s).overflows ≡ false
-  pub fresh : IsFresh (carried (at_hand m) (without_front s) (draft_message own_open m s))
-  pub up : ComesUpUnsaid s (draft_message own_open m s)
-  pub onward : s.link.epoch ≤ (draft_message own_open m s).link.epoch
-  pub acts : ActsWhereUp s (draft_message own_open m s)
+pub record HandlingKeepsFresh (own_open : Message) (read : Result Message Fault) (s : Side) : Type 0 where
+  pub fits : (draft_message own_open read s).overflows ≡ false
+  pub fresh : IsFresh (carried (at_hand read) (without_front s) (draft_message own_open read s))
+  pub up : ComesUpUnsaid s (draft_message own_open read s)
+  pub onward : s.link.epoch ≤ (draft_message own_open read s).link.epoch
+  pub acts : ActsWhereUp s (draft_message own_open read s)
 
 abbrev pub MessagesKeepFresh : Type 0
-MessagesKeepFresh = (own_open : Message) (m : Result Message Fault) (s : Side) → IsFresh s → HandlingKeepsFresh own_open m s
+MessagesKeepFresh =
+    (own_open : Message) (read : Result Message Fault) (s : Side) → IsFresh s → HandlingKeepsFresh own_open read s

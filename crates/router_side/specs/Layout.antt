@@ -1,4 +1,5 @@
 -- The octets of the two shapes in which a path is told, piece by piece (RFC 4271 section 4.3).
+-- q is a prefix.
 use Rattle.std.specs.Prelude.{ℕ, ◌≡◌, ◌+◌, ◌*◌, ◌^◌, ◌<◌, ◌≤◌, true, List, [], ◌∷◌, ◌++◌, length, take, get_or}
 use Rattle.std.specs.Int.{w16, w32, to_be_bytes}
 use Rattle.bgp_values.specs.Ranges.{is_unicast}
@@ -14,23 +15,21 @@ marked rest = 255 ∷ 255 ∷ 255 ∷ 255 ∷ 255 ∷ 255 ∷ 255 ∷ 255 ∷ 25
 
 -- the two octets of a number, before what follows
 abbrev pub field : ℕ → List ℕ → List ℕ
-field n rest = get_or (to_be_bytes w16 n) 0 0 ∷ get_or (to_be_bytes w16 n) 1 0 ∷ rest
+field number rest = get_or (to_be_bytes w16 number) 0 0 ∷ get_or (to_be_bytes w16 number) 1 0 ∷ rest
 
 -- a withdrawal up to the octets of its prefix, of which there are `count`
 abbrev pub withdrawal_front : ℕ → ℕ → List ℕ
 withdrawal_front len count = marked (field (24 + count) (2 ∷ field (1 + count) (len ∷ [])))
 
--- an announcement of `len` octets behind its Marker, up to the length of its AS_PATH, `path`, which comes next
-abbrev pub announcement_head : ℕ → ℕ → List ℕ
-announcement_head len path = field len (2 ∷ 0 ∷ 0 ∷ field (14 + path) (64 ∷ 1 ∷ 1 ∷ 0 ∷ 64 ∷ 2 ∷ []))
-
--- an announcement of `len` octets from its Marker on, up to the length of its AS_PATH, `path`, which comes next
+-- an announcement of `len` octets from its Marker on, up to the length of its AS_PATH, `path_len`, which comes next
 abbrev pub announcement_start : ℕ → ℕ → List ℕ
-announcement_start len path = marked (announcement_head len path)
+announcement_start len path_len = marked (field len (2 ∷ 0 ∷ 0 ∷ field (14 + path_len) (64 ∷ 1 ∷ 1 ∷ 0 ∷ 64 ∷ 2 ∷ [])))
 
 -- an announcement up to the numbers of its path, which have `size` octets; those of its prefix are `count`
 abbrev pub announcement_front : ℕ → ℕ → ℕ → List ℕ
-announcement_front numbers size count = marked (field (40 + size + count) (2 ∷ 0 ∷ 0 ∷ field (16 + size) (64 ∷ 1 ∷ 1 ∷ 0 ∷ 64 ∷ 2 ∷ (2 + size) ∷ 2 ∷ numbers ∷ [])))
+announcement_front number_count size count =
+    marked (field (40 + size + count) (2 ∷ 0 ∷ 0
+    ∷ field (16 + size) (64 ∷ 1 ∷ 1 ∷ 0 ∷ 64 ∷ 2 ∷ (2 + size) ∷ 2 ∷ number_count ∷ [])))
 
 -- an announcement behind the numbers of its path, up to the octets of its prefix
 abbrev pub announcement_hop : ℕ → ℕ → List ℕ

@@ -1,4 +1,5 @@
 -- Short sayings as entries, and how many octets they have.
+-- m is a message, o an OPEN, n an incarnation.
 use Rattle.std.specs.Prelude.{ℕ, ◌+◌, ◌≤◌, Bool, cond, List, [], ◌∷◌, ◌++◌, length, Option, None, Some}
 use Rattle.bgp_values.specs.declared.width.Width.{Width}
 use Rattle.bgp_values.specs.declared.messages.TheConstants.{MESSAGE_LIMIT, HEADER_LEN, LEAST_NOTIFICATION}
@@ -19,20 +20,20 @@ told_of (HasFault fault) = Some (notification_of fault)
 told_of (HasUpdate update) = None
 
 abbrev pub said_where : ℕ → Option Message → List (Entry Message)
-said_where e None = []
-said_where e (Some m) = Says e m ∷ []
+said_where n None = []
+said_where n (Some m) = Says n m ∷ []
 
 abbrev pub entries_of : Message → Option Message → Say → List (Entry Message)
-entries_of own_open told (say.Dial e) = Dial e ∷ []
-entries_of own_open told (say.Shut e) = Shut e ∷ []
-entries_of own_open told (say.Open e) = Says e own_open ∷ []
-entries_of own_open told (say.Alive e) = Says e AliveMsg ∷ []
-entries_of own_open told (say.Notice e code) = Says e (notification code) ∷ []
-entries_of own_open told (say.Given e) = said_where e told
+entries_of own_open told (say.Dial n) = Dial n ∷ []
+entries_of own_open told (say.Shut n) = Shut n ∷ []
+entries_of own_open told (say.Open n) = Says n own_open ∷ []
+entries_of own_open told (say.Alive n) = Says n AliveMsg ∷ []
+entries_of own_open told (say.Notice n code) = Says n (notification code) ∷ []
+entries_of own_open told (say.Given n) = said_where n told
 
 abbrev pub all_entries : Message → Option Message → List Say → List (Entry Message)
 all_entries own_open told [] = []
-all_entries own_open told (x ∷ xs) = entries_of own_open told x ++ all_entries own_open told xs
+all_entries own_open told (saying ∷ sayings) = entries_of own_open told saying ++ all_entries own_open told sayings
 
 abbrev pub size_where : Width → Option Message → ℕ
 size_where width None = 0
@@ -40,16 +41,16 @@ size_where width (Some m) = length (written width m)
 
 -- how many octets a saying has, if the OPEN has so many, and the message that tells of what is at hand so many
 abbrev pub size_of : ℕ → ℕ → Say → ℕ
-size_of own_open told (say.Dial e) = 0
-size_of own_open told (say.Shut e) = 0
-size_of own_open told (say.Open e) = own_open
-size_of own_open told (say.Alive e) = HEADER_LEN
-size_of own_open told (say.Notice e code) = LEAST_NOTIFICATION
-size_of own_open told (say.Given e) = told
+size_of open_len told_len (say.Dial n) = 0
+size_of open_len told_len (say.Shut n) = 0
+size_of open_len told_len (say.Open n) = open_len
+size_of open_len told_len (say.Alive n) = HEADER_LEN
+size_of open_len told_len (say.Notice n code) = LEAST_NOTIFICATION
+size_of open_len told_len (say.Given n) = told_len
 
 abbrev pub all_sizes : ℕ → ℕ → List Say → ℕ
-all_sizes own_open told [] = 0
-all_sizes own_open told (x ∷ xs) = size_of own_open told x + all_sizes own_open told xs
+all_sizes open_len told_len [] = 0
+all_sizes open_len told_len (saying ∷ sayings) = size_of open_len told_len saying + all_sizes open_len told_len sayings
 
 -- a message that a router can say
 abbrev pub nobody : Width → Rule
@@ -63,11 +64,11 @@ IsSayableWhere width None = Unit {0}
 IsSayableWhere width (Some m) = IsSayable width m
 
 abbrev pub acted_where : Bool → Option Update → ℕ → (ℕ → List Update) → ℕ → List Update
-acted_where acts None e history = history
-acted_where acts (Some u) e history = cond acts (with_update history e u) history
+acted_where acts None n history = history
+acted_where acts (Some update) n history = cond acts (with_update history n update) history
 
 abbrev pub update_in : Message → Option Update
-update_in (OpenMsg m) = None
-update_in (UpdateMsg u) = Some u
-update_in (NoticeMsg n) = None
+update_in (OpenMsg o) = None
+update_in (UpdateMsg update) = Some update
+update_in (NoticeMsg notice) = None
 update_in AliveMsg = None

@@ -1,4 +1,5 @@
 -- A side of the code as a side of the definitions, and the room that a change of it needs.
+-- s t are sides, a a draft, h what is at hand, m a message, n an incarnation, u v routers' numbers.
 use Rattle.std.specs.Prelude.{ℕ, ◌≡◌, ◌≤◌, true, List, [], length, Option, Some}
 use Rattle.bgp_values.specs.declared.width.Width.{Width}
 use Rattle.bgp_values.specs.declared.messages.TheConstants.{MESSAGE_LIMIT}
@@ -29,15 +30,15 @@ side s = record {
 
 -- the opening: Idle, and nothing was dialled, said, taken, acted on or sent
 abbrev pub side_opening : SessionConfig → Width → Side
-side_opening config width = record { session = sessions.opening config; link = links.opening; outbox = []; held = []; acted = λ e. []; sent = λ e. []; width = width }
+side_opening config width = record { session = sessions.opening config; link = links.opening; outbox = []; held = []; acted = λ n. []; sent = λ n. []; width = width }
 
 -- the rule that names a peer, and the router itself
 abbrev pub naming : Width → ℕ → ℕ → Rule
-naming width own peer = record { width = width; peer = Some peer; own = Some own }
+naming width u v = record { width = width; peer = Some v; own = Some u }
 
 -- this is at hand with the message or fault in front of these octets, of some peer of some router
 abbrev pub IsInFront : Width → List ℕ → AtHand → Type 0
-IsInFront width octets g = (own : ℕ) × (peer : ℕ) × (g ≡ at_hand (front (naming width own peer) octets))
+IsInFront width octets h = (u : ℕ) × (v : ℕ) × (h ≡ at_hand (front (naming width u v) octets))
 
 -- a draft can be carried out without memory
 pub record HasRoom (own_open : Message) (told : Option Message) (a : SideDraft) (s : SideEnd) : Type 0 where

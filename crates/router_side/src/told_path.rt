@@ -15,7 +15,7 @@ ghost use Rattle.bgp_codec.specs.Spelling.{written};
 ghost use Rattle.prefix_lanes.specs.Bits.{IsCanonical};
 ghost use Rattle.router_model.specs.State.{withdrawal, announcement, telling};
 ghost use Rattle.router_side.specs.Histories.{spelt_by, PutsBehind};
-ghost use Rattle.router_side.specs.Layout.{address, announcement_hop, announcement_start, announcement_head, withdrawal_front, IsAnnouncement, IsWithdrawal};
+ghost use Rattle.router_side.specs.Layout.{address, announcement_hop, announcement_start, withdrawal_front, IsAnnouncement, IsWithdrawal};
 ghost use Rattle.router_side.specs.Acting.{IsToldBy};
 ghost use Rattle.router_side.specs.Sayings.{IsSayable};
 ghost use Rattle.router_side.specs.declared.told_path.TheConstants.{MOST_NUMBERS};
@@ -29,7 +29,6 @@ use bgp_codec::{
 use bgp_values::{
     AS_PATH, AS_SEQUENCE, HEADER_LEN, IGP, NEXT_HOP, ORIGIN, TRANSITIVE, UPDATE, Width, is_unicast,
 };
-use marker_lanes::MARKER_LEN;
 use prefix_lanes::Prefix;
 use std::alloc::{AllocError, Global};
 use std::marker::Model;
@@ -78,27 +77,17 @@ fn withdrawal_front(len: u8, count: usize) -> [u8; 22]
     ]
 }
 
-// The octets of an announcement of `len` octets behind its Marker, up to the length of its AS_PATH, `path_len`, which
-// comes next.
-fn announcement_head(len: u16, path_len: u8) -> [u8; FRONT - MARKER_LEN]
-    ensures { result ≡ announcement_head len path_len }
-{
-    let [high, low] = len.to_be_bytes();
-    let [upper, lower] = ((FIXED_ATTRS - 2 + path_len as usize) as u16).to_be_bytes();
-    [
-        high, low, UPDATE, 0, 0, upper, lower, TRANSITIVE, ORIGIN, 1, IGP, TRANSITIVE, AS_PATH,
-    ]
-}
-
 // The octets of an announcement of `len` octets from its Marker on, up to the length of its AS_PATH, `path_len`, which
 // comes next.
 pub(crate) fn announcement_start(len: u16, path_len: u8) -> [u8; FRONT]
     ensures { result ≡ announcement_start len path_len }
 {
-    let [a, b, c, d, e, f, g, h, i, j, k, l, m] = announcement_head(len, path_len);
+    let [high, low] = len.to_be_bytes();
+    let [upper, lower] = ((FIXED_ATTRS - 2 + path_len as usize) as u16).to_be_bytes();
     [
         0xff, 0xff, 0xff, 0xff, 0xff, 0xff, 0xff, 0xff, 0xff, 0xff, 0xff, 0xff, 0xff, 0xff, 0xff,
-        0xff, a, b, c, d, e, f, g, h, i, j, k, l, m,
+        0xff, high, low, UPDATE, 0, 0, upper, lower, TRANSITIVE, ORIGIN, 1, IGP, TRANSITIVE,
+        AS_PATH,
     ]
 }
 
@@ -110,9 +99,8 @@ pub(crate) fn shortened(frame: &[u8]) -> (bool, &[u8])
 {
     header_is_its_front();
     if let Some((front, rest)) = frame.split_at_checked(FRONT) {
-        let (_, head) = front.split_at(MARKER_LEN);
         if let [path_len, ..] = rest {
-            if are(head, &announcement_head(frame.len() as u16, *path_len)) {
+            if are(front, &announcement_start(frame.len() as u16, *path_len)) {
                 return (true, rest);
             }
         }

@@ -7,7 +7,8 @@ ghost use Rattle.router_model.specs.Sides.{carried, is_up, without_front, HasUpd
 ghost use Rattle.router_side.specs.SideOf.{side, acting, IsInFront, HasRoomToAct, KeepsRoom};
 
 use super::SideEnd;
-use super::carrying::keep_front;
+use bgp_codec::laws::header_is_its_front;
+use bgp_framing::Next;
 use bgp_values::MESSAGE_LIMIT;
 use session_fsm::FsmEvent;
 use std::alloc::AllocError;
@@ -33,8 +34,15 @@ impl SideEnd {
         ensures { (u : updates.Update) → IsInFront self.old.width (side self.old).held (HasUpdate u)
             → side self.new ≡ carried (HasUpdate u) (without_front (side self.old)) (acting (side self.old)) }
     {
-        keep_front(&mut self.acted, &self.framer, self.link.epoch());
-        self.drop_front();
+        header_is_its_front();
+        match self.framer.next() {
+            Next::Whole(_, end) => {
+                let (frame, _) = self.framer.bytes().split_at(end);
+                self.acted.keep_frame(self.link.epoch(), frame);
+                self.framer.drop_front();
+            }
+            Next::More | Next::Bad(_) => unreachable!(),
+        }
         let _ = self.session.on(FsmEvent::UpdateMsg);
     }
 }

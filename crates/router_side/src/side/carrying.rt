@@ -3,13 +3,12 @@
 ghost use Rattle.std.specs.Prelude.{◌≡◌, ◌≤◌, ◌++◌, [], true, cond, length, None, OnOk, OnErr};
 ghost use Rattle.bgp_values.specs.declared.messages.TheConstants.{MESSAGE_LIMIT};
 ghost use Rattle.bgp_values.specs.declared.width.Width as widths;
-ghost use Rattle.bgp_codec.specs.declared.update.Update as updates;
 ghost use Rattle.bgp_codec.specs.Header.{header_fault};
 ghost use Rattle.bgp_codec.specs.Spelling.{written};
 ghost use Rattle.bgp_framing.specs.Held.{is_waiting};
 ghost use Rattle.run_model.specs.Octets.{passing};
 ghost use Rattle.session_fsm.specs.Timers.{ticked};
-ghost use Rattle.router_model.specs.Sides.{carried, acted_with, rest_behind, with_update, without_front, NoMessage, HasUpdate};
+ghost use Rattle.router_model.specs.Sides.{carried, acted_with, rest_behind, without_front, NoMessage};
 ghost use Rattle.router_side.specs.Sayings.{told_of, all_entries, all_sizes, size_where, IsSayable, IsSayableWhere};
 ghost use Rattle.router_side.specs.Drafts.{draft, hand};
 ghost use Rattle.router_side.specs.Histories.{history, told_with};
@@ -118,7 +117,7 @@ impl SideEnd {
     }
 
     // The message in front is taken away; a fault stays. It takes no memory.
-    pub(super) fn drop_front(&mut self)
+    fn drop_front(&mut self)
         requires { is_waiting self.old.framer.octets ≡ true }
         ensures held { self.new.framer.octets
             ≡ rest_behind (header_fault self.old.framer.octets) self.old.framer.octets }
@@ -146,25 +145,6 @@ fn fault_notice(given: Brought) -> Option<Message>
     }
 }
 
-// The UPDATE in front joins those acted on, by the octets of its frame. It takes no memory.
-pub(super) fn keep_front(acted: &mut History, framer: &Framer, epoch: u32)
-    requires waits { is_waiting framer.now.octets ≡ true }
-    requires front { (w : widths.Width) × (u : updates.Update) × IsInFront w framer.now.octets (HasUpdate u) }
-    requires room { MESSAGE_LIMIT ≤ acted.old.room }
-    requires place { 1 ≤ acted.old.places }
-    ensures { (w : widths.Width) (u : updates.Update) → IsInFront w framer.now.octets (HasUpdate u)
-        → history (told_with w acted.new) ≡ with_update (history (told_with w acted.old)) epoch u }
-{
-    header_is_its_front();
-    match framer.next() {
-        Next::Whole(_, end) => {
-            let (frame, _) = framer.bytes().split_at(end);
-            acted.keep_frame(epoch, frame);
-        }
-        Next::More | Next::Bad(_) => unreachable!(),
-    }
-}
-
 // If the draft acts on it, the UPDATE in front joins those acted on, by the octets of its frame. It takes no memory.
 fn count_front(acted: &mut History, framer: &Framer, acts: bool, given: &Brought, epoch: u32)
     requires waits { is_waiting framer.now.octets ≡ true }
@@ -174,11 +154,18 @@ fn count_front(acted: &mut History, framer: &Framer, acts: bool, given: &Brought
     ensures { (w : widths.Width) → IsInFront w framer.now.octets (hand given.now)
         → history (told_with w acted.new) ≡ acted_with acts (hand given.now) epoch (history (told_with w acted.old)) }
 {
+    header_is_its_front();
     if !acts {
         return;
     }
     match given {
         Brought::Nothing | Brought::Fault(_) => {}
-        Brought::Update(_) => keep_front(acted, framer, epoch),
+        Brought::Update(_) => match framer.next() {
+            Next::Whole(_, end) => {
+                let (frame, _) = framer.bytes().split_at(end);
+                acted.keep_frame(epoch, frame);
+            }
+            Next::More | Next::Bad(_) => unreachable!(),
+        },
     }
 }

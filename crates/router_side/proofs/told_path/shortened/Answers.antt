@@ -3,6 +3,4 @@ use Rattle.router_side.proofs.Spelt.{frame_spelt}
 use Rattle.router_side.proofs.told_path.shortened.Goals as goal
 
 pub returns-then-are-clause-spells : goal.returns-then-are-clause-spells
-returns-then-are-clause-spells c =
-    frame_spelt c.args.frame.now c.in-Some.front.now c.in-Some.rest.now c.split_at.result.1.now c.requires c.in-Some.ensures.cases c.split_at.ensures.back
-    (c.are.ensures c.if-are.true ∙ c.announcement_head.ensures)
+returns-then-are-clause-spells c = frame_spelt c.args.frame.now c.in-Some.front.now c.in-Some.rest.now c.in-Some.ensures.cases (c.are.ensures c.if-are.true ∙ c.announcement_start.ensures)
