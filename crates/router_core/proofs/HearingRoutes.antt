@@ -1,6 +1,6 @@
 -- An UPDATE in front that tells a path is handled without a draft.
 use Rattle.std.proofs.Common.{◌≡◌, ◌∙◌, ℕ, Bool, true, false, List, [], ◌∷◌, Option, None, Some, refl, ap, sym, subst, inl, inr, cond}
-use Rattle.std.specs.Prelude.{Result, Ok, Err, IfOk, OnOk, MatchOption, is_some, not}
+use Rattle.std.specs.Prelude.{Result, Ok, IfOk, MatchOption, is_some, not}
 use Rattle.snap_marker.specs.declared.part.Part.{Part}
 use Rattle.std.proofs.lemmas.Bool.{eq-eqb}
 use Rattle.bgp_values.specs.declared.width.Width.{Width}
@@ -21,10 +21,6 @@ use Rattle.router_side.specs.Acting.{IsRouteInFront, UpdatesAreActedOn}
 use Rattle.router_side.specs.SideOf.{acting, naming, IsInFront}
 use Rattle.router_core.specs.Following.{Followed, ComesUpAgain, standing}
 use Rattle.router_core.specs.Handling.{HandlesFront, seen_where}
-
-on_ok_both : {T E : Type 0} (r : Result T E) {A B C : Type 0} → OnOk r A → OnOk r B → (A → B → C) → OnOk r C
-on_ok_both {T} {E} (Ok t) {A} {B} {C} a b f = f a b
-on_ok_both {T} {E} (Err e) {A} {B} {C} a b f = tt
 
 -- nothing is being recorded
 pub no_part : {X : Type 0} (p : Option Part) (r : Option X) (P : X → Type 0) (n : Bool) → MatchOption r (p ≡ None) P → is_some r ≡ not n → n ≡ true → p ≡ None
@@ -52,7 +48,7 @@ module _ (law : UpdatesAreActedOn) (o : Message) (rule : Rule) (own v : ℕ) (s 
   nothing_seen : snapshots_of x ≡ seen_where v (Some u) (snapshots_of x)
   nothing_seen = rw none refl
 
-  handled_by : (z : Side) (old new : RibView) → z ≡ carried (HasUpdate u) (without_front s) (acting s) → HearsUpdate old new v u → HandlesFront o rule v s z old new (snapshots_of x) (snapshots_of x)
+  pub handled_by : (z : Side) (old new : RibView) → z ≡ carried (HasUpdate u) (without_front s) (acting s) → HearsUpdate old new v u → HandlesFront o rule v s z old new (snapshots_of x) (snapshots_of x)
   handled_by z old new carries hears = record {
     hand = HasUpdate u;
     draft = acting s;
@@ -65,7 +61,3 @@ module _ (law : UpdatesAreActedOn) (o : Message) (rule : Rule) (own v : ℕ) (s 
     writable = subst (λ (m : Result Message Fault). IfOk m (IsWritable rule)) (sym reads) (subst (λ (w : Width). UpdateFits w u) (sym (ap (λ (r : Rule). r.width) is)) route.sayable.0);
     sees = nothing_seen;
   }
-
-  pub route_handled : {T E : Type 0} (r : Result T E) (z : Side) (old new : RibView) → OnOk r (z ≡ carried (HasUpdate u) (without_front s) (acting s)) → OnOk r (HearsUpdate old new v u)
-      → OnOk r (HandlesFront o rule v s z old new (snapshots_of x) (snapshots_of x))
-  route_handled {T} {E} r z old new carries hears = on_ok_both r carries hears (handled_by z old new)

@@ -1,5 +1,7 @@
 -- Peers that change one after the other.
-use Rattle.std.proofs.Common.{◌≡◌, ℕ, zero, suc, ◌<◌, ◌≤◌, List, [], ◌∷◌, ◌+◌, length, drop, refl, ap, sym, subst, ◌∙◌, arith, get_or, set}
+use Rattle.std.proofs.Common.{◌≡◌, ℕ, zero, suc, ◌<◌, ◌≤◌, List, [], ◌∷◌, ◌++◌, ◌+◌, length, drop, refl, ap, sym, subst, ◌∙◌, arith, get_or, set}
+use Rattle.std.specs.Prelude.{take}
+use Rattle.std.proofs.lemmas.List.{take_at}
 use Rattle.router_model.specs.Sides.{Side}
 use Rattle.router_side.specs.SideOf.{side, HasRoomToMark}
 use Rattle.router_core.specs.declared.peers.Peer.{Peer}
@@ -42,6 +44,17 @@ passed_same (suc i) [] [] h = tt
 passed_same (suc i) [] (q ∷ qs) h = absurd h
 passed_same (suc i) (p ∷ ps) [] h = absurd h
 passed_same (suc i) (p ∷ ps) (q ∷ qs) h = (h.0, h.1, passed_same i ps qs h.2)
+
+-- they are as many as before
+become_many : (f : Side → Side) (ps qs : List Peer) → Become f ps qs → length qs ≡ length ps
+become_many f [] [] h = refl
+become_many f [] (q ∷ qs) h = absurd h
+become_many f (p ∷ ps) [] h = absurd h
+become_many f (p ∷ ps) (q ∷ qs) h = ap suc (become_many f ps qs h.2)
+
+-- what a Vec of n peers holds behind a loop over them
+pub written_back : (P : List Peer → Type 0) (f : Side → Side) (ps qs : List Peer) (n : ℕ) → n ≡ length ps → Become f ps qs → P qs → P (take n (qs ++ drop (length qs) ps))
+written_back P f ps qs n many b h = subst P (sym (take_at qs (drop (length qs) ps) n (become_many f ps qs b ∙ sym many))) h
 
 -- the first peers have room for a marker; all but the first have
 abbrev pub RoomBelow : ℕ → List Peer → Type 0

@@ -1,4 +1,5 @@
 -- A call of the code as one of the definitions, and whether its caller has room.
+-- c is a command, v a router's number.
 use Rattle.std.specs.Prelude.{ℕ, ◌+◌, nat_lt, Bool, true, false, Result, Ok, Err, IsOk}
 use Rattle.router_model.specs.declared.refusal.RouterError.{RouterError}
 use Rattle.router_model.specs.declared.refusal.RouterError.TheVariants as error
@@ -30,4 +31,4 @@ why_no_step false = error.Memory
 
 -- why a step behind this stamp is not done
 abbrev pub no_step : ℕ → RouterError
-no_step last = why_no_step (nat_lt GREATEST_STAMP (last + 1))
+no_step stamp = why_no_step (nat_lt GREATEST_STAMP (stamp + 1))

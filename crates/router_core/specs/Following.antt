@@ -1,4 +1,5 @@
 -- The tables of a router, as the session with one peer moves.
+-- s is a side, v a router's number; old and new are tables.
 use Rattle.std.specs.Prelude.{ℕ, ◌≡◌, ◌==◌, Bool, true, false, cond, Option, None, Some}
 use Rattle.rib_tables.specs.Owners.{RibView, ComesUp, ForgetsPeer}
 use Rattle.router_model.specs.Sides.{Side, is_up}

@@ -1,4 +1,5 @@
 -- The part that a router records of a snapshot, as the code has it: lists by prefix and by peer.
+-- g is a setting, x y a router before and behind, u v routers' numbers, p a peer, s a side, k a snapshot's number.
 use Rattle.std.specs.Prelude.{ℕ, ◌≡◌, true, false, cond, List, [], ◌∷◌, map, filter, Option, None, Some, Result, MatchResult}
 use Rattle.prefix_lanes.specs.Bits.{PrefixView}
 use Rattle.ranked_policy.specs.declared.network.Origin.{Origin}
@@ -22,11 +23,11 @@ use Rattle.router_core.specs.Views.{RouterView, plain_of, listed}
 
 -- the path kept for each prefix that the network names
 abbrev pub paths_of : List Origin → Paths → List KeptPath
-paths_of origins kept = map (λ o. record { prefix = o.prefix; path = path_of kept o.prefix }) origins
+paths_of origins kept = map (λ origin. record { prefix = origin.prefix; path = path_of kept origin.prefix }) origins
 
 -- the prefixes that the network names and the router originates
 abbrev pub own_of : List Origin → List PrefixView → List PrefixView
-own_of origins originated = filter (lists originated) (map (λ o. o.prefix) origins)
+own_of origins originated = filter (lists originated) (map (λ origin. origin.prefix) origins)
 
 -- a channel for each peer, open but for the one whose marker came
 abbrev pub channels_of : Option ℕ → List Peer → List Seen
@@ -43,12 +44,13 @@ abbrev pub down_in : List Peer → Option ℕ
 down_in [] = None
 down_in (p ∷ ps) = cond (is_up (side p.end)) (down_in ps) (Some p.number)
 
--- each peer stays, and its side changes by f
+-- each peer stays, and its side changes in this way
 abbrev pub Become : (Side → Side) → List Peer → List Peer → Type 0
-Become f [] [] = Unit {0}
-Become f (p ∷ ps) (q ∷ qs) = (q.number ≡ p.number) × (side q.end ≡ f (side p.end)) × Become f ps qs
-Become f [] (q ∷ qs) = ⊥
-Become f (p ∷ ps) [] = ⊥
+Become change [] [] = Unit {0}
+Become change (p ∷ ps) (other ∷ others) =
+    (other.number ≡ p.number) × (side other.end ≡ change (side p.end)) × Become change ps others
+Become change [] (other ∷ others) = ⊥
+Become change (p ∷ ps) [] = ⊥
 
 -- each side has room for a marker
 abbrev pub HaveRoomToMark : List Peer → Type 0
@@ -57,23 +59,25 @@ HaveRoomToMark (p ∷ ps) = HasRoomToMark p.end × HaveRoomToMark ps
 
 -- the marker goes to a peer whose session is Established
 abbrev pub marked_if_up : ℕ → Side → Side
-marked_if_up s x = cond (is_up x) (marked s x) x
+marked_if_up k s = cond (is_up s) (marked k s) s
 
 -- the part of a snapshot that a router with these tables and peers records now
-pub record IsPart (origins : List Origin) (t : RibView) (ps : List Peer) (u s : ℕ) (first : Option ℕ) (p : Part) : Type 0 where
-  pub router : p.router ≡ u
-  pub number : p.number ≡ s
-  pub kept : p.kept.items ≡ paths_of origins t.kept
-  pub originated : p.originated.items ≡ own_of origins t.originated
-  pub channels : map seen p.channels.items ≡ channels_of first ps
-  pub some : p.pending ≡ true → IsPending t
-  pub none : p.pending ≡ false → HoldsOfAll t.net.origins (IsSettled t) × AllServed t
+pub record IsPart (origins : List Origin) (tables : RibView) (ps : List Peer) (u k : ℕ) (first : Option ℕ)
+    (part : Part) : Type 0 where
+  pub router : part.router ≡ u
+  pub number : part.number ≡ k
+  pub kept : part.kept.items ≡ paths_of origins tables.kept
+  pub originated : part.originated.items ≡ own_of origins tables.originated
+  pub channels : map seen part.channels.items ≡ channels_of first ps
+  pub some : part.pending ≡ true → IsPending tables
+  pub none : part.pending ≡ false → HoldsOfAll tables.net.origins (IsSettled tables) × AllServed tables
 
 -- the part that the router would record now, in every setting of its network that chooses by rank
-pub record IsStateOf (x : RouterView) (p : Part) : Type 0 where
-  pub router : p.router ≡ x.number
-  pub number : p.number ≡ 0
-  pub state : (g : Setting) → g.net ≡ x.net → ChoosesByRank g → part_of p ≡ recorded_part g x.number (plain_of x).router
+pub record IsStateOf (x : RouterView) (part : Part) : Type 0 where
+  pub router : part.router ≡ x.number
+  pub number : part.number ≡ 0
+  pub state : (g : Setting) → g.net ≡ x.net → ChoosesByRank g
+      → part_of part ≡ recorded_part g x.number (plain_of x).router
 
 -- the marker came from a peer, or a command came
 abbrev pub IsPeer : List Peer → Option ℕ → Type 0
@@ -82,7 +86,7 @@ IsPeer ps (Some v) = listed v ps ≡ true
 
 -- a snapshot is recorded at this stamp, or memory is wanting
 abbrev pub RecordsAt : Result Stepped RouterError → RouterView → ℕ → Option ℕ → ℕ → RouterView → Type 0
-RecordsAt r x s first stamp y =
-    (g : Setting) → g.net ≡ x.net → ChoosesByRank g → MatchResult r
-    (λ did. (did ≡ stepped.Did) × (plain_of y ≡ record { router = records g x.number (plain_of x).router s first; stamp = stamp }))
+RecordsAt result x k first stamp y =
+    (g : Setting) → g.net ≡ x.net → ChoosesByRank g → MatchResult result
+    (λ did. (did ≡ stepped.Did) × (plain_of y ≡ record { router = records g x.number (plain_of x).router k first; stamp = stamp }))
     (λ why. (why ≡ error.Memory) × (plain_of y ≡ plain_of x))

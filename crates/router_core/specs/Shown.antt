@@ -1,4 +1,5 @@
 -- What a router shows of itself, by peer.
+-- x is a router, v a router's number.
 use Rattle.std.specs.Prelude.{ℕ, ◌≡◌, ◌&&◌, Bool, cond, Option, None, Some, Result}
 use Rattle.std.specs.List.{find}
 use Rattle.prefix_lanes.specs.Bits.{PrefixView}
@@ -26,6 +27,6 @@ front_of x v = front (naming x.net.settings.width x.number v) (sides_of x v).hel
 -- the first peer that waits and has room, and its least prefix; none if no peer does
 abbrev pub IsToldNext : RouterView → Option (ℕ × PrefixView) → Type 0
 IsToldNext x None = find (has_room_at x) (peers x.net x.number) ≡ None
-IsToldNext x (Some told) =
-    (find (has_room_at x) (peers x.net x.number) ≡ Some told.0)
-    × (unadvertised (unchosen x.net) x.number (plain_of x).router told.0 ≡ Some told.1)
+IsToldNext x (Some pair) =
+    (find (has_room_at x) (peers x.net x.number) ≡ Some pair.0)
+    × (unadvertised (unchosen x.net) x.number (plain_of x).router pair.0 ≡ Some pair.1)

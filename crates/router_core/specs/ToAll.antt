@@ -1,4 +1,6 @@
 -- Events that come to all peers of a router at once.
+-- x y are a router before and behind, v a router's number, p a peer, j its place, s a side, a a draft, D the draft of a
+-- side, c a command.
 use Rattle.std.specs.Prelude.{ℕ, ◌≡◌, ◌||◌, Bool, false, List, [], ◌∷◌, Option, None, is_some, get_or, set}
 use Rattle.bgp_codec.specs.declared.message.Message.{Message}
 use Rattle.session_fsm.specs.declared.event.FsmEvent.TheVariants.{ManualStart, ManualStop}
@@ -53,8 +55,8 @@ IsReady own_open D p a = (draft own_open NoMessage a ≡ D (side p.end)) × HasR
 -- these are the drafts of these sides
 abbrev pub AreReady : Message → (Side → Draft) → List Peer → List SideDraft → Type 0
 AreReady own_open D [] [] = Unit {0}
-AreReady own_open D (p ∷ ps) (a ∷ ms) = IsReady own_open D p a × AreReady own_open D ps ms
-AreReady own_open D [] (a ∷ ms) = ⊥
+AreReady own_open D (p ∷ ps) (a ∷ others) = IsReady own_open D p a × AreReady own_open D ps others
+AreReady own_open D [] (a ∷ others) = ⊥
 AreReady own_open D (p ∷ ps) [] = ⊥
 
 -- the first of the peers whose session leaves Established
@@ -72,12 +74,12 @@ pub record IsRest (x y : RouterView) : Type 0 where
   pub stamp : y.stamp ≡ x.stamp
 
 -- the side of the peer at a place is moved
-pub record MovesSide (x : RouterView) (at : ℕ) (D : Side → Draft) (y : RouterView) : Type 0 where
+pub record MovesSide (x : RouterView) (j : ℕ) (D : Side → Draft) (y : RouterView) : Type 0 where
   pub peer : Peer
-  pub peers : y.peers ≡ set x.peers at peer
-  pub number : (d : Peer) → peer.number ≡ (get_or x.peers at d).number
-  pub moved : (d : Peer) → side peer.end ≡ carried NoMessage (side (get_or x.peers at d).end) (D (side (get_or x.peers at d).end))
-  pub marks : (d : Peer) → snapshots_of y.marks ≡ closed (close_at (get_or x.peers at d).number (D (side (get_or x.peers at d).end)).left) (snapshots_of x.marks)
+  pub peers : y.peers ≡ set x.peers j peer
+  pub number : (p : Peer) → peer.number ≡ (get_or x.peers j p).number
+  pub moved : (p : Peer) → side peer.end ≡ carried NoMessage (side (get_or x.peers j p).end) (D (side (get_or x.peers j p).end))
+  pub marks : (p : Peer) → snapshots_of y.marks ≡ closed (close_at (get_or x.peers j p).number (D (side (get_or x.peers j p).end)).left) (snapshots_of x.marks)
   pub rest : IsRest x y
 
 -- all sides are moved, rising

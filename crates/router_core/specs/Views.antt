@@ -1,4 +1,6 @@
 -- A router of the code as a router of the definitions: its list of peers as a function of numbers, its tables as what its sides say.
+-- g is a setting, x y a router before and behind, r one with its stamp, u v routers' numbers, p a peer, j a place, s a
+-- side, a a draft, h what is at hand, i an item, z a sign, k a snapshot's number, n an incarnation, q a prefix.
 use Rattle.std.specs.Prelude.{ℕ, zero, suc, ◌≡◌, ◌≢◌, ◌≤◌, ◌<◌, ◌==◌, nat_lt, Bool, true, false, not, ◌&&◌, cond, List, [], ◌∷◌, length, map, Option, None, Some, Result, Ok, Err, MatchResult, ◌+◌}
 use Rattle.ranked_policy.specs.declared.limits.TheConstants.{LONGEST_PATH}
 use Rattle.bgp_values.specs.declared.width.Width.{Width}
@@ -44,14 +46,14 @@ use Rattle.router_core.specs.declared.router.choose.Next.{Next}
 use Rattle.router_core.specs.declared.router.choose.Next.TheVariants as next
 
 abbrev pub view_of : Inside → RouterView
-view_of r = record {
-  net = r.network.now;
-  number = r.number;
-  own_open = r.own_open;
-  peers = r.peers.items;
-  tables = r.tables;
-  marks = r.marks;
-  stamp = r.stamp;
+view_of inside = record {
+  net = inside.network.now;
+  number = inside.number;
+  own_open = inside.own_open;
+  peers = inside.peers.items;
+  tables = inside.tables;
+  marks = inside.marks;
+  stamp = inside.stamp;
 }
 
 abbrev pub is_number : ℕ → Peer → Bool
@@ -68,13 +70,13 @@ listed v (p ∷ ps) = cond (is_number v p) true (listed v ps)
 
 -- the first peer with that number stands at that place
 abbrev pub IsAt : List Peer → ℕ → ℕ → Type 0
-IsAt [] v i = ⊥
+IsAt [] v j = ⊥
 IsAt (p ∷ ps) v zero = p.number ≡ v
-IsAt (p ∷ ps) v (suc i) = (p.number ≢ v) × IsAt ps v i
+IsAt (p ∷ ps) v (suc j) = (p.number ≢ v) × IsAt ps v j
 
 -- the peer is found at that place, which is below the length
 abbrev pub IsFound : List Peer → ℕ → ℕ → Type 0
-IsFound ps v i = (i < length ps) × (listed v ps ≡ true) × IsAt ps v i
+IsFound ps v j = (j < length ps) × (listed v ps ≡ true) × IsAt ps v j
 
 -- the settings of the sessions of a network
 abbrev pub config_of : Plan → SessionConfig
@@ -115,10 +117,10 @@ abbrev pub told_now : Side → PrefixView → Word
 told_now s q = cond (is_up s) (last_told s q) nothing
 
 -- the tables have of a peer what the side towards it says
-pub record Follows (origins : List Origin) (t : RibView) (v : ℕ) (s : Side) : Type 0 where
-  pub up : Contains t.established v ↔ (is_up s ≡ true)
-  pub heard : (q : PrefixView) → IsNamed origins q → word_of t.heard v q ≡ heard_now s q
-  pub told : (q : PrefixView) → IsNamed origins q → word_of t.sent v q ≡ told_now s q
+pub record Follows (origins : List Origin) (tables : RibView) (v : ℕ) (s : Side) : Type 0 where
+  pub up : Contains tables.established v ↔ (is_up s ≡ true)
+  pub heard : (q : PrefixView) → IsNamed origins q → word_of tables.heard v q ≡ heard_now s q
+  pub told : (q : PrefixView) → IsNamed origins q → word_of tables.sent v q ≡ told_now s q
 
 -- a path that can be told: of at most so many numbers, each of which fits the width
 pub record IsTellable (width : Width) (path : List ℕ) : Type 0 where
@@ -146,7 +148,7 @@ pub record IsTabled (x : RouterView) : Type 0 where
 pub record IsMarked (x : RouterView) : Type 0 where
   pub over : IsOver (peers x.net x.number) x.marks.unfinished
   pub unfinished : IsOf x.number x.marks.unfinished
-  pub queue : AllByRecursion (λ o. router_of o ≡ x.number) x.marks.queue
+  pub queue : AllByRecursion (λ offer. router_of offer ≡ x.number) x.marks.queue
 
 -- what holds of every router of the code
 pub record IsSound (x : RouterView) : Type 0 where
@@ -155,15 +157,16 @@ pub record IsSound (x : RouterView) : Type 0 where
   pub numbers : map (λ p. p.number) x.peers ≡ peers x.net x.number
   pub links : (v : ℕ) → listed v x.peers ≡ linked x.net x.number v
   pub own_open : x.own_open ≡ open_of x.net x.number
-  pub sayable : (w : Width) → IsSayable w x.own_open
+  pub sayable : (width : Width) → IsSayable width x.own_open
   pub stamp : x.stamp ≤ GREATEST_STAMP
   pub tabled : IsTabled x
   pub marked : IsMarked x
 
 -- a call answers and leaves the router as it has to, in every setting of its network that chooses by rank
 abbrev pub Answers : Result Stepped RouterError → RouterView → Call → RouterView → Type 0
-Answers r x call y =
-    (g : Setting) → g.net ≡ x.net → ChoosesByRank g → Gives g x.number r (answer g x.number (plain_of x) call) (plain_of x) call (plain_of y)
+Answers result x call y =
+    (g : Setting) → g.net ≡ x.net → ChoosesByRank g
+    → Gives g x.number result (answer g x.number (plain_of x) call) (plain_of x) call (plain_of y)
 
 -- it is the same router of the same network
 pub record IsSame (x y : RouterView) : Type 0 where
@@ -172,53 +175,57 @@ pub record IsSame (x y : RouterView) : Type 0 where
 
 -- a router as it is made, in every setting of its network
 abbrev pub Opens : Plan → ℕ → RouterView → Type 0
-Opens net number x = (x.net ≡ net) × (x.number ≡ number) × ((g : Setting) → g.net ≡ net → plain_of x ≡ record { router = new_router g; stamp = 0 })
+Opens net u x = (x.net ≡ net) × (x.number ≡ u) × ((g : Setting) → g.net ≡ net → plain_of x ≡ record { router = new_router g; stamp = 0 })
 
 -- what `next_item` has to answer, by what the call Put has to answer
 abbrev pub Shows : ℕ → Result (Option Item) RouterError → Answer → Type 0
-Shows stamp r (Steps (puts v i)) = MatchResult r (λ next. next ≡ Some (record { stamp = stamp; what = i })) (λ why. why ≡ error.Memory)
-Shows stamp r (Steps (alone e)) = ⊥
-Shows stamp r (Steps (takes v i)) = ⊥
-Shows stamp r (Steps (offers made)) = ⊥
-Shows stamp r Idle = r ≡ Ok None
-Shows stamp r (Refuses why) = r ≡ Err why
+Shows stamp result (Steps (puts v i)) =
+    MatchResult result (λ shown. shown ≡ Some (record { stamp = stamp; what = i })) (λ why. why ≡ error.Memory)
+Shows stamp result (Steps (alone own)) = ⊥
+Shows stamp result (Steps (takes v i)) = ⊥
+Shows stamp result (Steps (offers made)) = ⊥
+Shows stamp result Idle = result ≡ Ok None
+Shows stamp result (Refuses why) = result ≡ Err why
 
 abbrev pub ShowsNext : Result (Option Item) RouterError → RouterView → ℕ → Type 0
-ShowsNext r x v = (g : Setting) → g.net ≡ x.net → Shows (x.stamp + 1) r (answer g x.number (plain_of x) (Put v))
+ShowsNext result x v =
+    (g : Setting) → g.net ≡ x.net → Shows (x.stamp + 1) result (answer g x.number (plain_of x) (Put v))
 
 -- an item is put next towards the peer
 abbrev pub HasNext : RouterView → ℕ → Type 0
-HasNext x v = (next : Item) × ShowsNext (Ok (Some next)) x v
+HasNext x v = (shown : Item) × ShowsNext (Ok (Some shown)) x v
 
 -- a step is done, or refused for its stamp, its numbers or want of memory
 abbrev pub Ends : Bool → Bool → Result Stepped RouterError → Stamped → Stamped → Stamped → Type 0
-Ends true overflows r x z y = (r ≡ Err error.StampEnd) × (y ≡ x)
-Ends false true r x z y = (r ≡ Err error.EpochEnd) × (y ≡ x)
-Ends false false r x z y = MatchResult r (λ s. (s ≡ stepped.Did) × (y ≡ z)) (λ why. (why ≡ error.Memory) × (y ≡ x))
+Ends true overflows result r goal done = (result ≡ Err error.StampEnd) × (done ≡ r)
+Ends false true result r goal done = (result ≡ Err error.EpochEnd) × (done ≡ r)
+Ends false false result r goal done =
+    MatchResult result (λ did. (did ≡ stepped.Did) × (done ≡ goal)) (λ why. (why ≡ error.Memory) × (done ≡ r))
 
 -- a draft of one side is carried out, at this stamp
 abbrev pub Carries : Result Stepped RouterError → RouterView → ℕ → AtHand → Draft → Bool → ℕ → RouterView → Type 0
-Carries r x v h a overflows stamp y =
-    Ends (nat_lt GREATEST_STAMP stamp) overflows r (plain_of x) (record { router = moved (plain_of x).router v h a; stamp = stamp }) (plain_of y)
+Carries result x v h a overflows stamp y =
+    Ends (nat_lt GREATEST_STAMP stamp) overflows result (plain_of x)
+    (record { router = moved (plain_of x).router v h a; stamp = stamp }) (plain_of y)
 
 -- a Dial or a Shut of a peer is taken at this stamp, or is refused
 abbrev pub TakesSign : Result Stepped RouterError → RouterView → ℕ → Sign → ℕ → RouterView → Type 0
-TakesSign r x v s stamp y =
-    let a = draft_sign x.own_open (sides_of x v) s in
-    Carries r x v NoMessage a a.overflows stamp y
+TakesSign result x v z stamp y =
+    let a = draft_sign x.own_open (sides_of x v) z in
+    Carries result x v NoMessage a a.overflows stamp y
 
 -- a marker of a peer is taken at this stamp, or memory is wanting
 abbrev pub TakesMark : Result Stepped RouterError → RouterView → ℕ → ℕ → ℕ → ℕ → RouterView → Type 0
-TakesMark r x v e s stamp y =
-    (g : Setting) → g.net ≡ x.net → ChoosesByRank g → MatchResult r
-    (λ did. (did ≡ stepped.Did) × (plain_of y ≡ record { router = taken g x.number (plain_of x).router v (item.Mark e s); stamp = stamp }))
+TakesMark result x v n k stamp y =
+    (g : Setting) → g.net ≡ x.net → ChoosesByRank g → MatchResult result
+    (λ did. (did ≡ stepped.Did) × (plain_of y ≡ record { router = taken g x.number (plain_of x).router v (item.Mark n k); stamp = stamp }))
     (λ why. (why ≡ error.Memory) × (plain_of y ≡ plain_of x))
 
 -- ---- offers
 
 -- this offer of the router waits in front
 abbrev pub IsOffered : RouterView → Offer → Type 0
-IsOffered x o = (next_offer (plain_of x).router ≡ Some (offer_of o)) × (router_of o ≡ x.number)
+IsOffered x offer = (next_offer (plain_of x).router ≡ Some (offer_of offer)) × (router_of offer ≡ x.number)
 
 -- an offer waits
 abbrev pub HasOffer : RouterView → Type 0
@@ -238,26 +245,30 @@ has_room_at x v = has_room (unchosen x.net) x.number (plain_of x).router v
 
 -- the prefix stands at that place of the network
 abbrev pub IsNamedAt : Plan → PrefixView → ℕ → Type 0
-IsNamedAt net q place = slice_get (map (λ origin. origin.prefix) net.origins) place ≡ Some q
+IsNamedAt net q j = slice_get (map (λ origin. origin.prefix) net.origins) j ≡ Some q
 
 -- the peer at this place was not told the kept path of this prefix, the least one
-pub record MayTell (x : RouterView) (at : ℕ) (q : PrefixView) : Type 0 where
+pub record MayTell (x : RouterView) (j : ℕ) (q : PrefixView) : Type 0 where
   pub peer : ℕ
-  pub place : IsAt x.peers peer at
+  pub place : IsAt x.peers peer j
   pub waits : unadvertised (unchosen x.net) x.number (plain_of x).router peer ≡ Some q
 
 -- the first peer that waits and has room; if none has room, the first that waits
 abbrev pub IsNext : RouterView → Next → Type 0
-IsNext x (next.Peer at place q) = (found : MayTell x at q) × (find (has_room_at x) (peers x.net x.number) ≡ Some found.peer) × IsNamedAt x.net q place
+IsNext x (next.Peer j prefix_place q) =
+    (found : MayTell x j q) × (find (has_room_at x) (peers x.net x.number) ≡ Some found.peer)
+    × IsNamedAt x.net q prefix_place
 IsNext x (next.Blocked v) = (find (has_room_at x) (peers x.net x.number) ≡ None) × (find (waits_at x) (peers x.net x.number) ≡ Some v)
 IsNext x next.Nobody = (find (has_room_at x) (peers x.net x.number) ≡ None) × (find (waits_at x) (peers x.net x.number) ≡ None)
 
 -- the kept path of a prefix is told to a peer
 abbrev pub told_to : Stamped → Plan → ℕ → ℕ → PrefixView → Stamped
-told_to x net u v q = record {
-  router = with_side x.router v (λ s. told s (telling (identifier net.routers u) q (x.router.kept q)));
-  stamp = x.stamp + 1;
+told_to r net u v q = record {
+  router = with_side r.router v (λ s. told s (telling (identifier net.routers u) q (r.router.kept q)));
+  stamp = r.stamp + 1;
 }
 
 abbrev pub Tells : Result Stepped RouterError → RouterView → ℕ → PrefixView → RouterView → Type 0
-Tells r x v q y = Ends (nat_lt GREATEST_STAMP (x.stamp + 1)) false r (plain_of x) (told_to (plain_of x) x.net x.number v q) (plain_of y)
+Tells result x v q y =
+    Ends (nat_lt GREATEST_STAMP (x.stamp + 1)) false result (plain_of x)
+    (told_to (plain_of x) x.net x.number v q) (plain_of y)

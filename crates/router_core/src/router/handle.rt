@@ -7,15 +7,12 @@ ghost use Rattle.bgp_framing.specs.Held.{is_waiting};
 ghost use Rattle.ranked_policy.specs.Plans.{Linked};
 ghost use Rattle.snap_marker.specs.Recordings.{closed};
 ghost use Rattle.snap_marker.specs.Parts.{snapshots_of, is_heard, HasRoom, IsLink, IsOver, AreOf};
-ghost use Rattle.rib_tables.specs.Owners.{HearsUpdate};
 ghost use Rattle.router_model.specs.Settings.{peers};
-ghost use Rattle.router_model.specs.Sides.{is_up, carried, without_front, HasUpdate};
 ghost use Rattle.router_model.specs.Step.{close_at};
 ghost use Rattle.router_model.specs.Calls.{Handle};
 ghost use Rattle.router_side.specs.Drafts.{hand};
 ghost use Rattle.router_side.specs.Sayings.{IsSayable};
-ghost use Rattle.router_side.specs.Acting.{IsRouteInFront};
-ghost use Rattle.router_side.specs.SideOf.{side, acting, naming};
+ghost use Rattle.router_side.specs.SideOf.{side, naming};
 ghost use Rattle.router_core.specs.Views.{IsSame, Answers};
 ghost use Rattle.router_core.specs.Calling.{NeedsRoom};
 ghost use Rattle.router_core.specs.Handling.{update_acted, copy_where, seen_where, Hears, HandlesFront};
@@ -28,7 +25,7 @@ use rib_tables::Rib;
 use rib_tables::laws::the_word_follows;
 use router_model::{RouterError, Stepped};
 use router_side::laws::{updates_are_acted_on, what_comes_keeps_fresh};
-use router_side::{Brought, SideEnd, ToldPath, opened};
+use router_side::{Brought, SideEnd, opened};
 use snap_marker::MarkState;
 use std::alloc::{AllocError, Global};
 
@@ -94,34 +91,6 @@ fn record(marks: &mut MarkState, peer: Asn, left: Option<u32>, copy: Option<Upda
     }
 }
 
-// Acts on the UPDATE in front of a side that is up, which tells a path. There is no draft. A refusal leaves all as it
-// was.
-fn act_on(
-    end: &mut SideEnd,
-    tables: &mut Rib<'_>,
-    at: usize,
-    peer: Asn,
-    route: &ToldPath,
-) -> Result<(), AllocError>
-    requires stands { slice_get (peers tables.old.net tables.old.router) at ≡ Some peer }
-    requires up { is_up (side end.old) ≡ true }
-    requires waits { is_waiting (side end.old).held ≡ true }
-    requires front { IsRouteInFront (side end.old).width peer (side end.old).held route.now }
-    ensures side { OnOk result
-        (side end.new ≡ carried (HasUpdate route.now) (without_front (side end.old)) (acting (side end.old))) }
-    ensures hears { OnOk result (HearsUpdate tables.old tables.new peer route.now) }
-    ensures end { OnErr result (side end.new ≡ side end.old) }
-    ensures tables { OnErr result (tables.new ≡ tables.old) }
-{
-    end.reserve_acting()?;
-    let (prefix, path) = route.prefix_and_path();
-    let Ok(()) = tables.hear_path_at(at, peer, prefix, path) else {
-        return Err(AllocError);
-    };
-    end.act_on_front();
-    Ok(())
-}
-
 // Handles the message or fault in front of a side, as its peer says it. A refusal leaves all as it was.
 fn handle_front(
     alloc: Global,
@@ -149,10 +118,16 @@ fn handle_front(
     ensures router { (u : ℕ) → AreOf u marks.old → AreOf u marks.new }
 {
     updates_are_acted_on();
-    // most are UPDATEs as a router tells them, and are not recorded
+    // most are UPDATEs as a router tells them, and are not recorded: they are acted on without a draft
     if end.is_up() && marks.unfinished().is_none() {
         if let Some(route) = end.path_in_front(alloc, peer)? {
-            return act_on(end, tables, at, peer, &route);
+            end.reserve_acting()?;
+            let (prefix, path) = route.prefix_and_path();
+            let Ok(()) = tables.hear_path_at(at, peer, prefix, path) else {
+                return Err(AllocError);
+            };
+            end.act_on_front();
+            return Ok(());
         }
     }
     handle_by_draft(alloc, rule, end, tables, marks, own_open, peer)

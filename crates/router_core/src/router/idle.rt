@@ -66,7 +66,8 @@ impl Router<'_> {
         requires stands { slice_get (peers self.now.net self.now.number) at ≡ Some peer }
         ensures { (cut : ℕ) → result ≡ link_is_idle self.now peer cut }
     {
-        self.puts_nothing_at(at, peer) && self.may_take_at(at, peer)
+        let end = self.end_at(at, peer);
+        !end.has_item() && !end.is_waiting()
     }
 
     // The side towards the peer at a place.

@@ -112,23 +112,15 @@ fn first_down(peers: &[Peer]) -> Option<Asn>
     None
 }
 
-// Makes room for a marker to each of these peers.
-fn reserve_each(peers: &mut [Peer]) -> Result<(), AllocError>
-    ensures same { Become (λ s. s) peers.old peers.new }
-    ensures room { OnOk result (HaveRoomToMark peers.new) }
-{
-    for peer in peers.iter_mut() {
-        peer.end.reserve_marker()?;
-    }
-    Ok(())
-}
-
 // Makes room for a marker to every peer of the router.
 fn reserve_markers(peers: &mut Vec<Peer>) -> Result<(), AllocError>
     ensures same { Become (λ s. s) peers.old.items peers.new.items }
     ensures room { OnOk result (HaveRoomToMark peers.new.items) }
 {
-    reserve_each(peers.as_mut_slice())
+    for peer in peers.iter_mut() {
+        peer.end.reserve_marker()?;
+    }
+    Ok(())
 }
 
 // Sends the marker of a snapshot to a peer in Established, behind all that waits.
@@ -141,22 +133,14 @@ fn mark(peer: &mut Peer, number: u32)
     }
 }
 
-// Sends the marker to each of these peers.
-fn mark_each(peers: &mut [Peer], number: u32)
-    requires { HaveRoomToMark peers.old }
-    ensures { Become (marked_if_up number) peers.old peers.new }
-{
-    for peer in peers.iter_mut() {
-        mark(peer, number);
-    }
-}
-
 // Sends the marker to every peer of the router.
 fn mark_all(peers: &mut Vec<Peer>, number: u32)
     requires { HaveRoomToMark peers.old.items }
     ensures { Become (marked_if_up number) peers.old.items peers.new.items }
 {
-    mark_each(peers.as_mut_slice(), number);
+    for peer in peers.iter_mut() {
+        mark(peer, number);
+    }
 }
 
 // Whether a marker is heeded: in Established alone, in the incarnation that the end joined.

@@ -1,29 +1,17 @@
-use Rattle.std.proofs.Common.{◌≡◌, ◌∙◌, ◌&&◌, Bool, true, false, not, sym, refl}
+use Rattle.std.proofs.Common.{◌∙◌, not, sym, ap, refl}
 use Rattle.std.specs.Prelude.{is_some}
 use Rattle.bgp_framing.specs.Held.{is_waiting}
 use Rattle.outbox.specs.Items.{next_item}
-use Rattle.router_model.specs.Settings.{linked}
-use Rattle.router_core.specs.Views.{sides_of}
+use Rattle.router_model.specs.Sides.{Side}
 use Rattle.router_core.proofs.router.Router.link_is_idle_at.Goals as goal
 
-both : (l a b : Bool) → (l && a) ≡ true → (l && b) ≡ (l && (a && b))
-both true true b h = refl
-both true false b h = absurd cc
-both false a b h = refl
+pub returns-then-not-has_item : goal.returns-then-not-has_item
+returns-then-not-has_item c = λ cut.
+    let puts = ap (λ (s : Side). is_some (next_item cut s.outbox)) (sym c.end_at-end.ensures.side) ∙ sym (c.has_item.ensures cut) ∙ c.if-not-has_item.true in
+    let waits = c.is_waiting.ensures ∙ ap (λ (s : Side). is_waiting s.held) c.end_at-end.ensures.side in
+    rw (c.end_at-end.ensures.linked, puts, waits) refl
 
-not_both : (l a b : Bool) → (l && a) ≡ false → false ≡ (l && (a && b))
-not_both true true b h = absurd cc
-not_both true false b h = refl
-not_both false a b h = refl
-
-pub returns-then-puts_nothing_at : goal.returns-then-puts_nothing_at
-returns-then-puts_nothing_at c = λ cut.
-    let x = c.args.self.now in
-    let s = sides_of x c.args.peer in
-    c.may_take_at.ensures ∙ both (linked x.net x.number c.args.peer) (not (is_some (next_item cut s.outbox))) (not (is_waiting s.held)) (sym (c.puts_nothing_at.ensures cut) ∙ c.if-puts_nothing_at.true)
-
-pub returns-else-puts_nothing_at : goal.returns-else-puts_nothing_at
-returns-else-puts_nothing_at c = λ cut.
-    let x = c.args.self.now in
-    let s = sides_of x c.args.peer in
-    c.if-puts_nothing_at.false ∙ not_both (linked x.net x.number c.args.peer) (not (is_some (next_item cut s.outbox))) (not (is_waiting s.held)) (sym (c.puts_nothing_at.ensures cut) ∙ c.if-puts_nothing_at.false)
+pub returns-else-not-has_item : goal.returns-else-not-has_item
+returns-else-not-has_item c = λ cut.
+    let puts = ap (λ (s : Side). is_some (next_item cut s.outbox)) (sym c.end_at-end.ensures.side) ∙ sym (c.has_item.ensures cut) ∙ c.if-not-has_item.false in
+    rw (c.end_at-end.ensures.linked, puts) (ap not c.if-not-has_item.false)
