@@ -1,4 +1,6 @@
 -- What holds of one link through a run of routers.
+-- g is a setting, s t sides, end and far the ends of a link, twin_side a side in the laws of runs, u v routers'
+-- numbers, m a message.
 use Rattle.std.specs.Prelude.{ℕ, ◌≡◌, ◌≢◌, true, List, [], ◌++◌, Ok}
 use Rattle.bgp_codec.specs.declared.message.Message.{Message}
 use Rattle.bgp_codec.specs.Header.{IsFrame}
@@ -25,25 +27,27 @@ IsGood g u m = IsFrame (written_in g m) × ((v : ℕ) → reading (rule_of g.net
 
 -- the items taken are what the end took, and then octets that are held if the side is joined, and were dropped
 -- otherwise
-pub record Holds (g : Setting) (s : Side) (items : List (Passing Message)) (a : End Message) : Type 0 where
+pub record Holds (g : Setting) (s : Side) (passes : List (Passing Message)) (end : End Message) : Type 0 where
   pub rest : List (Passing Message)
   pub only : OnlyOctets rest
-  pub passed : items ≡ passing (written_in g) a.taken ++ rest
+  pub passed : passes ≡ passing (written_in g) end.taken ++ rest
   pub joined : s.link.phase ≡ phase.Joined → rest ≡ octets_of s.link.epoch s.held
   pub apart : s.link.phase ≢ phase.Joined → s.held ≡ []
 
 -- a step of a side that takes these items
-pub record Advances (g : Setting) (s t : Side) (new : List (Entry Message)) (before items : List (Passing Message)) (a b : End Message) : Type 0 where
+pub record Advances (g : Setting) (s t : Side) (said : List (Entry Message)) (passes more : List (Passing Message))
+    (end far : End Message) : Type 0 where
   pub past : List (Entry Message)
-  pub does : Does s t new past a b
-  pub holds : Holds g t (before ++ items) (sides_after (model_side s a) does.events).end
+  pub does : Does s t said past end far
+  pub holds : Holds g t (passes ++ more) (sides_after (model_side s end) does.events).end
 
 -- the side of a session in the laws of runs, and the side of a router that it stands for, with its log and what it took
-pub record SideKept (g : Setting) (s : Side) (said : List (Entry Message)) (items : List What) (x : model.Side Message) (b : End Message) : Type 0 where
-  pub state : x.state ≡ state_of s.session.state
-  pub stands : Stands s x.end b
-  pub log : said ≡ x.end.appended
-  pub holds : Holds g s (all_passes items) x.end
+pub record SideKept (g : Setting) (s : Side) (said : List (Entry Message)) (items : List What)
+    (twin_side : model.Side Message) (far : End Message) : Type 0 where
+  pub state : twin_side.state ≡ state_of s.session.state
+  pub stands : Stands s twin_side.end far
+  pub log : said ≡ twin_side.end.appended
+  pub holds : Holds g s (all_passes items) twin_side.end
 
 -- a link: a run of its two sessions leads to its two sides, s of router u and t of router v
 pub record LinkKept (g : Setting) (u v : ℕ) (s t : Side) (log other : List (Entry Message)) (items back : List What) : Type 0 where

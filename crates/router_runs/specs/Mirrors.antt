@@ -1,5 +1,7 @@
 -- A network of routers, and the network of the laws of runs that it stands for: router by router, recording by
 -- recording.
+-- g is a setting, x a router, twin the one in the laws of runs, u v routers' numbers, l an event of a twin with its
+-- offers, m a message, k a snapshot's number, q a prefix.
 use Rattle.std.specs.Prelude.{ℕ, ◌≡◌, ◌<◌, true, List, [], ◌∷◌, ◌++◌, Option, None, Some}
 use Rattle.std.specs.List.{list_any}
 use mathlib.Core.Logic.{◌⊎◌}
@@ -49,29 +51,29 @@ pub record AreAlike (g : Setting) (u : ℕ) (x : Router) (ends : ℕ → End Mes
 
 abbrev pub number_of : Option Recording → Option ℕ
 number_of None = None
-number_of (Some r) = Some r.number
+number_of (Some recording) = Some recording.number
 
 -- the unfinished recording waits for the same peers, at least one, and its part is what was recorded
-pub record ReadsPart (g : Setting) (u : ℕ) (r : Recording) (n : ModelRouter) : Type 0 where
-  pub waits : (v : ℕ) → linked g.net u v ≡ true → n.recorder.waits v ≡ r.waits v
-  pub some : list_any r.waits (peers g.net u) ≡ true
-  pub part : offers.IsPartOf (network_of g) u n r.number n.recorder.channel r.part
+pub record ReadsPart (g : Setting) (u : ℕ) (recording : Recording) (twin : ModelRouter) : Type 0 where
+  pub waits : (v : ℕ) → linked g.net u v ≡ true → twin.recorder.waits v ≡ recording.waits v
+  pub some : list_any recording.waits (peers g.net u) ≡ true
+  pub part : offers.IsPartOf (network_of g) u twin recording.number twin.recorder.channel recording.part
 
 abbrev pub ReadsRecording : Setting → ℕ → Option Recording → ModelRouter → Type 0
-ReadsRecording g u None n = Unit {0}
-ReadsRecording g u (Some r) n = ReadsPart g u r n
+ReadsRecording g u None twin = Unit {0}
+ReadsRecording g u (Some recording) twin = ReadsPart g u recording twin
 
 -- what is recorded
-pub record ReadsSnapshots (g : Setting) (u : ℕ) (z : Snapshots) (n : ModelRouter) : Type 0 where
-  pub last : n.recorder.last ≡ z.last
-  pub unfinished : n.recorder.unfinished ≡ number_of z.unfinished
-  pub recording : ReadsRecording g u z.unfinished n
+pub record ReadsSnapshots (g : Setting) (u : ℕ) (snapshots : Snapshots) (twin : ModelRouter) : Type 0 where
+  pub last : twin.recorder.last ≡ snapshots.last
+  pub unfinished : twin.recorder.unfinished ≡ number_of snapshots.unfinished
+  pub recording : ReadsRecording g u snapshots.unfinished twin
 
 -- all but the sides
-pub record ReadsRouter (g : Setting) (u : ℕ) (x : Router) (n : ModelRouter) : Type 0 where
-  pub kept : n.kept ≡ x.kept
-  pub originated : n.originated ≡ x.originated
-  pub snapshots : ReadsSnapshots g u x.snapshots n
+pub record ReadsRouter (g : Setting) (u : ℕ) (x : Router) (twin : ModelRouter) : Type 0 where
+  pub kept : twin.kept ≡ x.kept
+  pub originated : twin.originated ≡ x.originated
+  pub snapshots : ReadsSnapshots g u x.snapshots twin
 
 -- ---- events of one router, one after another, while the ends of its peers stand still
 
@@ -80,98 +82,113 @@ pub record Local : Type 0 where
   pub event : ModelEvent
   pub queues : List RouterOffer
 
-module _ (g : Setting) (u : ℕ) (far : ℕ → End Message) where
+module _ (g : Setting) (u : ℕ) (far_ends : ℕ → End Message) where
   abbrev pub MayLocal : ModelRouter → ModelEvent → Type 0
-  MayLocal n (Acts act) = MayAct u n.recorder far (linked g.net u) act × TellsNoUpdate (network_of g) act
-  MayLocal n (Advertise v p m) =
-      (u ≡ v → ⊥) × (linked g.net u v ≡ true) × (links.is_up (n.recorder.ends v) ≡ true)
-      × (told_word (network_of g) n.recorder.ends v p ≡ n.kept p → ⊥)
-      × ((network_of g).named p ≡ true) × ((network_of g).is_update m ≡ true) × ((network_of g).mentions m ≡ (p, n.kept p) ∷ [])
-  MayLocal n (Decide p) = ((network_of g).named p ≡ true) × (n.kept p ≡ routes.route (network_of g) u n.recorder.ends p (n.originated p) → ⊥)
-  MayLocal n (Command originated kept) = Unit {0}
+  MayLocal twin (Acts link_act) =
+      MayAct u twin.recorder far_ends (linked g.net u) link_act × TellsNoUpdate (network_of g) link_act
+  MayLocal twin (Advertise v q m) =
+      (u ≡ v → ⊥) × (linked g.net u v ≡ true) × (links.is_up (twin.recorder.ends v) ≡ true)
+      × (told_word (network_of g) twin.recorder.ends v q ≡ twin.kept q → ⊥)
+      × ((network_of g).named q ≡ true) × ((network_of g).is_update m ≡ true)
+      × ((network_of g).mentions m ≡ (q, twin.kept q) ∷ [])
+  MayLocal twin (Decide q) =
+      ((network_of g).named q ≡ true)
+      × (twin.kept q ≡ routes.route (network_of g) u twin.recorder.ends q (twin.originated q) → ⊥)
+  MayLocal twin (Command originated kept) = Unit {0}
 
   abbrev pub IsLocalRun : ModelRouter → List Local → Type 0
-  IsLocalRun n [] = Unit {0}
-  IsLocalRun n (l ∷ ls) = MayLocal n l.event × Queues (network_of g) u n l.event l.queues × IsLocalRun (router_after (network_of g) u n l.event) ls
+  IsLocalRun twin [] = Unit {0}
+  IsLocalRun twin (l ∷ ls) =
+      MayLocal twin l.event × Queues (network_of g) u twin l.event l.queues
+      × IsLocalRun (router_after (network_of g) u twin l.event) ls
 
 abbrev pub local_after : Setting → ℕ → ModelRouter → List Local → ModelRouter
-local_after g u n [] = n
-local_after g u n (l ∷ ls) = local_after g u (router_after (network_of g) u n l.event) ls
+local_after g u twin [] = twin
+local_after g u twin (l ∷ ls) = local_after g u (router_after (network_of g) u twin l.event) ls
 
 abbrev pub queued_by : List Local → List RouterOffer
 queued_by [] = []
 queued_by (l ∷ ls) = l.queues ++ queued_by ls
 
--- each event behind a recording of s is quiet
+-- each event behind a recording of k is quiet
 abbrev pub IsLocallyQuiet : Setting → ℕ → ℕ → ModelRouter → List Local → Type 0
-IsLocallyQuiet g u s n [] = Unit {0}
-IsLocallyQuiet g u s n (l ∷ ls) =
-    ((c : ℕ → End Message) → n.recorder.copy s ≡ Some c → IsQuietEvent n l.event)
-    × IsLocallyQuiet g u s (router_after (network_of g) u n l.event) ls
+IsLocallyQuiet g u k twin [] = Unit {0}
+IsLocallyQuiet g u k twin (l ∷ ls) =
+    ((copy : ℕ → End Message) → twin.recorder.copy k ≡ Some copy → IsQuietEvent twin l.event)
+    × IsLocallyQuiet g u k (router_after (network_of g) u twin l.event) ls
 
--- events of router u lead from n to m, and queue these offers; if they have to be still, each behind a recording is
--- quiet
-pub record Goes (g : Setting) (u : ℕ) (far : ℕ → End Message) (Still : Type 0) (n m : ModelRouter) (offers : List RouterOffer) : Type 0 where
+-- events of router u lead from one state of it to another, and queue these offers; if they have to be still, each
+-- behind a recording is quiet
+pub record Goes (g : Setting) (u : ℕ) (far_ends : ℕ → End Message) (Still : Type 0) (from to : ModelRouter)
+    (offers : List RouterOffer) : Type 0 where
   pub events : List Local
-  pub run : IsLocalRun g u far n events
-  pub leads : local_after g u n events ≡ m
+  pub run : IsLocalRun g u far_ends from events
+  pub leads : local_after g u from events ≡ to
   pub queues : queued_by events ≡ offers
-  pub calm : (s : ℕ) → (Still ⊎ (n.recorder.copy s ≡ None)) → IsLocallyQuiet g u s n events
+  pub calm : (k : ℕ) → (Still ⊎ (from.recorder.copy k ≡ None)) → IsLocallyQuiet g u k from events
 
-pub record Recorded (n m : ModelRouter) (low high : ℕ) : Type 0 where
+pub record Recorded (from to : ModelRouter) (low high : ℕ) : Type 0 where
   -- nothing that was recorded is forgotten
-  pub kept : (k : ℕ) (c : ℕ → End Message) → n.recorder.copy k ≡ Some c → (d : ℕ → End Message) × (m.recorder.copy k ≡ Some d)
-  pub new : (k : ℕ) (c : ℕ → End Message) → m.recorder.copy k ≡ Some c
-      → ((n.recorder.copy k ≡ Some c) × (m.kept_at k ≡ n.kept_at k) × (m.originated_at k ≡ n.originated_at k))
-      ⊎ ((low < k) × (high ≡ k) × (m.recorder.ends ≡ c) × (m.kept_at k ≡ m.kept) × (m.originated_at k ≡ m.originated))
-  pub recorded : (k : ℕ) → low < k → high ≡ k → (c : ℕ → End Message) × (m.recorder.copy k ≡ Some c)
+  pub kept : (k : ℕ) (copy : ℕ → End Message) → from.recorder.copy k ≡ Some copy
+      → (other : ℕ → End Message) × (to.recorder.copy k ≡ Some other)
+  pub new : (k : ℕ) (copy : ℕ → End Message) → to.recorder.copy k ≡ Some copy
+      → ((from.recorder.copy k ≡ Some copy) × (to.kept_at k ≡ from.kept_at k)
+      × (to.originated_at k ≡ from.originated_at k))
+      ⊎ ((low < k) × (high ≡ k) × (to.recorder.ends ≡ copy) × (to.kept_at k ≡ to.kept)
+      × (to.originated_at k ≡ to.originated))
+  pub recorded : (k : ℕ) → low < k → high ≡ k → (copy : ℕ → End Message) × (to.recorder.copy k ≡ Some copy)
 
 -- ---- the network
 
 -- the state of a run, and that of a run with offers of the laws
-pub record Mirrors (g : Setting) (state : RunState) (w : ModelOffering) : Type 0 where
-  pub sides : (u v : ℕ) → linked g.net u v ≡ true → Stands (side_of state u v) ((w.routers u).recorder.ends v) ((w.routers v).recorder.ends u)
-  pub log : (u v : ℕ) → linked g.net u v ≡ true → log_of state u v ≡ ((w.routers u).recorder.ends v).appended
-  pub holds : (u v : ℕ) → linked g.net u v ≡ true → Holds g (side_of state u v) (all_passes (state.taken v u)) ((w.routers u).recorder.ends v)
-  pub routers : (u : ℕ) → ReadsRouter g u (state.routers u).router (w.routers u)
-  pub queued : (u : ℕ) → w.queued u ≡ made_by u w.made ++ (state.routers u).router.snapshots.queue
-  pub made : w.made ≡ state.offered
+pub record Mirrors (g : Setting) (state : RunState) (offering : ModelOffering) : Type 0 where
+  pub sides : (u v : ℕ) → linked g.net u v ≡ true
+      → Stands (side_of state u v) ((offering.routers u).recorder.ends v) ((offering.routers v).recorder.ends u)
+  pub log : (u v : ℕ) → linked g.net u v ≡ true → log_of state u v ≡ ((offering.routers u).recorder.ends v).appended
+  pub holds : (u v : ℕ) → linked g.net u v ≡ true
+      → Holds g (side_of state u v) (all_passes (state.taken v u)) ((offering.routers u).recorder.ends v)
+  pub routers : (u : ℕ) → ReadsRouter g u (state.routers u).router (offering.routers u)
+  pub queued : (u : ℕ) → offering.queued u ≡ made_by u offering.made ++ (state.routers u).router.snapshots.queue
+  pub made : offering.made ≡ state.offered
 
 -- a copy of the ends of router u is its sides where it recorded, with what it had said and taken by then
-pub record IsCopyAt (g : Setting) (u : ℕ) (at : RunState) (c : ℕ → End Message) : Type 0 where
-  pub reads : (v : ℕ) → linked g.net u v ≡ true → Reads (side_of at u v) (c v)
-  pub up : (v : ℕ) → linked g.net u v ≡ true → links.is_up (c v) ≡ is_up (side_of at u v)
-  pub log : (v : ℕ) → linked g.net u v ≡ true → log_of at u v ≡ (c v).appended
-  pub holds : (v : ℕ) → linked g.net u v ≡ true → Holds g (side_of at u v) (all_passes (at.taken v u)) (c v)
+pub record IsCopyAt (g : Setting) (u : ℕ) (at : RunState) (copy : ℕ → End Message) : Type 0 where
+  pub reads : (v : ℕ) → linked g.net u v ≡ true → Reads (side_of at u v) (copy v)
+  pub up : (v : ℕ) → linked g.net u v ≡ true → links.is_up (copy v) ≡ is_up (side_of at u v)
+  pub log : (v : ℕ) → linked g.net u v ≡ true → log_of at u v ≡ (copy v).appended
+  pub holds : (v : ℕ) → linked g.net u v ≡ true → Holds g (side_of at u v) (all_passes (at.taken v u)) (copy v)
 
-pub record Copied (g : Setting) (order : RunOrder) (state : RunState) (n : ModelRouter) (u s : ℕ) (c : ℕ → End Message) : Type 0 where
+pub record Copied (g : Setting) (order : RunOrder) (state : RunState) (twin : ModelRouter) (u k : ℕ)
+    (copy : ℕ → End Message) : Type 0 where
   pub at : RunState
-  pub place : RecordedAt g order state u s at
-  pub ends : IsCopyAt g u at c
-  pub kept : n.kept_at s ≡ (at.routers u).router.kept
-  pub originated : n.originated_at s ≡ (at.routers u).router.originated
+  pub place : RecordedAt g order state u k at
+  pub ends : IsCopyAt g u at copy
+  pub kept : twin.kept_at k ≡ (at.routers u).router.kept
+  pub originated : twin.originated_at k ≡ (at.routers u).router.originated
   -- no octet that was taken behind the marker of a peer is held: the event is the marker's own, or the marker was not
   -- taken yet
-  pub unmarked : (v : ℕ) (near : linked g.net u v ≡ true) → links.is_up (c v) ≡ true
-      → ((ends.holds v near).rest ≡ []) ⊎ (offers.IsIn (links.Mark (links.incarnation (c v)) s) (c v).taken → ⊥)
+  pub unmarked : (v : ℕ) (near : linked g.net u v ≡ true) → links.is_up (copy v) ≡ true
+      → ((ends.holds v near).rest ≡ []) ⊎ (offers.IsIn (links.Mark (links.incarnation (copy v)) k) (copy v).taken → ⊥)
 
 -- a run of routers, and the run of the laws beside it
 pub record Mirrored (g : Setting) (order : RunOrder) (state : RunState) : Type 0 where
   pub steps : ModelSteps
   pub run : IsOfferRunOf (network_of g) steps
   pub mirrors : Mirrors g state (final (network_of g) steps)
-  pub copies : (u s : ℕ) (c : ℕ → End Message) → ((final (network_of g) steps).routers u).recorder.copy s ≡ Some c
-      → Copied g order state ((final (network_of g) steps).routers u) u s c
-  pub quiet : (s : ℕ) → IsQuietSince g s order state
-      → model.IsQuietSince (network_of g) s (routes.first_routers (network_of g)) (network_steps (network_of g) steps)
+  pub copies : (u k : ℕ) (copy : ℕ → End Message) → ((final (network_of g) steps).routers u).recorder.copy k ≡ Some copy
+      → Copied g order state ((final (network_of g) steps).routers u) u k copy
+  pub quiet : (k : ℕ) → IsQuietSince g k order state
+      → model.IsQuietSince (network_of g) k (routes.first_routers (network_of g)) (network_steps (network_of g) steps)
 
 -- the run of the laws goes on as the run of routers does, and forgets nothing that was recorded
-pub record GoesOn (g : Setting) (before : RunOrder) (at : RunState) (m : Mirrored g before at) (later : RunOrder) (last : RunState) : Type 0 where
+pub record GoesOn (g : Setting) (before : RunOrder) (at : RunState) (mirrored : Mirrored g before at)
+    (later : RunOrder) (last : RunState) : Type 0 where
   pub whole : Mirrored g (before ++ later) last
   pub more : ModelSteps
-  pub steps : whole.steps ≡ m.steps ++ more
-  pub keeps : (u s : ℕ) (c : ℕ → End Message) → ((final (network_of g) m.steps).routers u).recorder.copy s ≡ Some c
-      → (d : ℕ → End Message) × (((final (network_of g) whole.steps).routers u).recorder.copy s ≡ Some d)
+  pub steps : whole.steps ≡ mirrored.steps ++ more
+  pub keeps : (u k : ℕ) (copy : ℕ → End Message)
+      → ((final (network_of g) mirrored.steps).routers u).recorder.copy k ≡ Some copy
+      → (other : ℕ → End Message) × (((final (network_of g) whole.steps).routers u).recorder.copy k ≡ Some other)
 
 -- every run has its run of the laws
 abbrev pub RunsAreMirrored : Type 0
@@ -179,11 +196,12 @@ RunsAreMirrored = (g : Setting) → IsSetting g → (order : RunOrder) (state : 
 
 abbrev pub MirrorsGoOn : Type 0
 MirrorsGoOn =
-    (g : Setting) → IsSetting g → (before later : RunOrder) (at last : RunState) (m : Mirrored g before at) → IsRunTo g before at
-    → Run (logged_steps g) at later last → GoesOn g before at m later last
+    (g : Setting) → IsSetting g → (before later : RunOrder) (at last : RunState) (mirrored : Mirrored g before at)
+    → IsRunTo g before at → Run (logged_steps g) at later last → GoesOn g before at mirrored later last
 
 -- if a router recorded, there is a run of the laws whose router has that recording
 abbrev pub RecordingsAreMirrored : Type 0
 RecordingsAreMirrored =
-    (g : Setting) → IsSetting g → (order : RunOrder) (state : RunState) (u s : ℕ) (at : RunState) → RecordedAt g order state u s at
-    → (m : Mirrored g order state) × (c : ℕ → End Message) × (((final (network_of g) m.steps).routers u).recorder.copy s ≡ Some c)
+    (g : Setting) → IsSetting g → (order : RunOrder) (state : RunState) (u k : ℕ) (at : RunState)
+    → RecordedAt g order state u k at → (mirrored : Mirrored g order state) × (copy : ℕ → End Message)
+    × (((final (network_of g) mirrored.steps).routers u).recorder.copy k ≡ Some copy)

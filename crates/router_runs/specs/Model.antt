@@ -1,5 +1,6 @@
 -- The network of the laws of runs that a network of routers stands for: its messages are those of BGP-4, and its
 -- routers choose as the setting says.
+-- g is a setting, o an OPEN, q a prefix.
 use Rattle.std.specs.Prelude.{ℕ, List, [], ◌++◌, map}
 use Rattle.prefix_lanes.specs.Bits.{PrefixView, is_prefix}
 use Rattle.bgp_codec.specs.declared.message.Message.{Message}
@@ -19,8 +20,9 @@ announced_mentions path qs = map (λ q. (q, path)) qs
 -- withdrawals first, so that an announcement wins
 abbrev pub mentions : Message → List (PrefixView × List ℕ)
 mentions (OpenMsg o) = []
-mentions (UpdateMsg u) = withdrawn_mentions u.withdrawn ++ announced_mentions (path_in (announced_word u.attrs)) u.nlri
-mentions (NoticeMsg n) = []
+mentions (UpdateMsg update) =
+    withdrawn_mentions update.withdrawn ++ announced_mentions (path_in (announced_word update.attrs)) update.nlri
+mentions (NoticeMsg notice) = []
 mentions AliveMsg = []
 
 abbrev pub network_of : Setting → model.Network Message PrefixView (List ℕ)
@@ -28,7 +30,7 @@ network_of g = record {
   routers = is_router g;
   linked = linked g.net;
   named = names g.net.origins;
-  same_prefix = λ p q. is_prefix q p;
+  same_prefix = λ other q. is_prefix q other;
   is_update = is_update;
   mentions = mentions;
   no_path = [];

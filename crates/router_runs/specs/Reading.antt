@@ -1,4 +1,6 @@
 -- A side of a router as an end of a link and a session in the laws of runs.
+-- s is a side, end and far its end and the peer's, twin_side a side in the laws of runs, f an event of a session, m a
+-- message, n an incarnation.
 use Rattle.std.specs.Prelude.{ℕ, ◌≡◌, true, false, List, [], ◌∷◌, Option}
 use Rattle.bgp_codec.specs.declared.message.Message.{Message}
 use Rattle.link_epoch.specs.Ends.{hung_up}
@@ -37,33 +39,33 @@ phase_in state.OpenConfirm = phase.Joined
 phase_in state.Established = phase.Joined
 
 -- a side is this end: its numbers, its phase and its histories are those of what the end appended, took and used
-pub record Reads (s : Side) (a : End Message) : Type 0 where
-  pub phase : a.phase ≡ phase_of s.link.phase
-  pub epoch : s.link.epoch ≡ incarnation a
-  pub heard : s.link.heard ≡ heard_number a
-  pub is_shut : s.link.heard_is_shut ≡ has_shut (heard_number a) a.taken
-  pub acted : (e : ℕ) → s.acted e ≡ updates_in (said e a.used)
-  pub sent : (e : ℕ) → s.sent e ≡ updates_in (said e a.appended)
+pub record Reads (s : Side) (end : End Message) : Type 0 where
+  pub phase : end.phase ≡ phase_of s.link.phase
+  pub epoch : s.link.epoch ≡ incarnation end
+  pub heard : s.link.heard ≡ heard_number end
+  pub is_shut : s.link.heard_is_shut ≡ has_shut (heard_number end) end.taken
+  pub acted : (n : ℕ) → s.acted n ≡ updates_in (said n end.used)
+  pub sent : (n : ℕ) → s.sent n ≡ updates_in (said n end.appended)
 
 -- the end with its session's state
 abbrev pub model_side : Side → End Message → model.Side Message
-model_side s a = record { state = state_of s.session.state; end = a }
+model_side s end = record { state = state_of s.session.state; end = end }
 
--- events of a session that may come one after another, the peer's end being b, and the side that they leave
+-- events of a session that may come one after another, the peer's end being `far`, and the side that they leave
 abbrev pub MayComeAll : model.Side Message → End Message → List (SessionEvent Message) → Type 0
-MayComeAll x b [] = Unit {0}
-MayComeAll x b (e ∷ es) = MayCome x b e × MayComeAll (side_after x e) b es
+MayComeAll twin_side far [] = Unit {0}
+MayComeAll twin_side far (f ∷ fs) = MayCome twin_side far f × MayComeAll (side_after twin_side f) far fs
 
 abbrev pub sides_after : model.Side Message → List (SessionEvent Message) → model.Side Message
-sides_after x [] = x
-sides_after x (e ∷ es) = sides_after (side_after x e) es
+sides_after twin_side [] = twin_side
+sides_after twin_side (f ∷ fs) = sides_after (side_after twin_side f) fs
 
 -- the draft of a joined side that closes with this NOTIFICATION
 abbrev pub closing : Side → SessionView → Message → Option ℕ → Draft
-closing s session n left = record {
+closing s session m left = record {
   session = session;
   link = hung_up s.link;
-  says = Says s.link.epoch n ∷ Shut s.link.epoch ∷ [];
+  says = Says s.link.epoch m ∷ Shut s.link.epoch ∷ [];
   drops = true;
   acts = false;
   left = left;

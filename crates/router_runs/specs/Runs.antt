@@ -1,4 +1,6 @@
 -- Runs of a network of routers: each router steps by itself, and a take gets the next item that the peer put.
+-- g is a setting, u v routers' numbers, e an event, d one with its router, m a message, n an incarnation, k a
+-- snapshot's number; old and new are states of a run.
 use Rattle.std.specs.Prelude.{ℕ, ◌≡◌, ◌==◌, cond, List, [], ◌∷◌, ◌++◌, map}
 use Rattle.std.specs.List.{concat}
 use Rattle.bgp_codec.specs.declared.message.Message.{Message}
@@ -24,10 +26,10 @@ abbrev pub new_logged : Setting → Logged
 new_logged g = record { router = new_router g; log = λ v. [] }
 
 -- a step of router u, and what it appends
-pub record LoggedStep (g : Setting) (u : ℕ) (old : Logged) (e : RouterEvent) (new : Logged) : Type 0 where
+pub record LoggedStep (g : Setting) (u : ℕ) (logged : Logged) (e : RouterEvent) (next : Logged) : Type 0 where
   pub known : IsRouter g.net.routers u
-  pub step : Step g u old.router e new.router
-  pub log : new.log ≡ (λ v. old.log v ++ says g u old.router e v)
+  pub step : Step g u logged.router e next.router
+  pub log : next.log ≡ (λ v. logged.log v ++ says g u logged.router e v)
 
 abbrev pub logged_steps : Setting → Steps Logged Own What MadeOffer
 logged_steps g = LoggedStep g
@@ -73,8 +75,8 @@ octets_of_all g ms = concat (map (written_in g) ms)
 
 -- the octets of the pieces of an incarnation, up to its end
 abbrev pub stream : ℕ → List What → List ℕ
-stream e [] = []
-stream e (item.Dial f ∷ is) = stream e is
-stream e (item.Piece f octets ∷ is) = cond (e == f) (octets ++ stream e is) (stream e is)
-stream e (item.Mark f s ∷ is) = stream e is
-stream e (item.Shut f ∷ is) = cond (e == f) [] (stream e is)
+stream n [] = []
+stream n (item.Dial other ∷ is) = stream n is
+stream n (item.Piece other octets ∷ is) = cond (n == other) (octets ++ stream n is) (stream n is)
+stream n (item.Mark other k ∷ is) = stream n is
+stream n (item.Shut other ∷ is) = cond (n == other) [] (stream n is)

@@ -1,4 +1,5 @@
 -- What routers say: each message of a run is one of these, and can be read by every peer.
+-- g is a setting, u v routers' numbers, m a message, o an OPEN, q a prefix.
 use Rattle.std.specs.Prelude.{ℕ, ◌≡◌, true, false, ◌≤◌, List, [], length}
 use Rattle.std.specs.List.{AllByRecursion}
 use mathlib.Core.Logic.{◌⊎◌}
@@ -34,13 +35,15 @@ MayKeep g u path = (path ≡ []) ⊎ IsFinePath g u path
 
 -- an UPDATE that router u may tell
 abbrev pub IsToldBy : Setting → ℕ → Update → Type 0
-IsToldBy g u x = (q : PrefixView) × (path : List ℕ) × IsNamed g.net.origins q × MayKeep g u path × (x ≡ telling (identifier g.net.routers u) q path)
+IsToldBy g u update =
+    (q : PrefixView) × (path : List ℕ) × IsNamed g.net.origins q × MayKeep g u path
+    × (update ≡ telling (identifier g.net.routers u) q path)
 
 -- a message that router u may say: its OPEN, an UPDATE as above, a NOTIFICATION without data, a KEEPALIVE
 abbrev pub IsSaid : Setting → ℕ → Message → Type 0
 IsSaid g u (OpenMsg o) = OpenMsg o ≡ open_of g.net u
-IsSaid g u (UpdateMsg x) = IsToldBy g u x
-IsSaid g u (NoticeMsg n) = n.extra ≡ []
+IsSaid g u (UpdateMsg update) = IsToldBy g u update
+IsSaid g u (NoticeMsg notice) = notice.extra ≡ []
 IsSaid g u AliveMsg = Unit {0}
 
 -- a message that a router may say is written as a frame, and each peer of the router reads it back

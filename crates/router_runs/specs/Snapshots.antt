@@ -1,4 +1,6 @@
 -- What holds of the snapshots of every run (Chandy and Lamport 1985).
+-- g is a setting, x y a router before and behind, u v routers' numbers, e an event, d one with its router, c a command,
+-- i an item, k a snapshot's number, q a prefix; old and new are states of a run.
 use Rattle.std.specs.Prelude.{ℕ, ◌≡◌, ◌<◌, Bool, true, List, [], ◌∷◌, ◌++◌, map}
 use mathlib.Core.List.{IsPrefix}
 use mathlib.Core.Logic.{◌⊎◌}
@@ -27,32 +29,32 @@ use Rattle.router_runs.specs.Model.{network_of}
 abbrev pub snapshots_of : RunState → ℕ → Snapshots
 snapshots_of state u = (state.routers u).router.snapshots
 
--- router u made this part of s
-abbrev pub HasMade : RunState → (s u : ℕ) → RouterPart → Type 0
-HasMade state s u part = IsIn (made_of u (Finished s part)) state.offered
+-- router u made this part of k
+abbrev pub HasMade : RunState → (k u : ℕ) → RouterPart → Type 0
+HasMade state k u part = IsIn (made_of u (Finished k part)) state.offered
 
--- a session that leaves Established while s is recorded queues the loss of s, by the least such peer of the event and in the
--- incarnation that was left; and no part of s by that router is ever made
+-- a session that leaves Established while k is recorded queues the loss of k, by the least such peer of the event and in the
+-- incarnation that was left; and no part of k by that router is ever made
 abbrev pub CloseLosesTheRecording : Type 0
 CloseLosesTheRecording =
     (g : Setting) → IsSetting g → (before later : RunOrder) (d : NetworkEvent Own What MadeOffer) (old new last : RunState)
     → IsRunTo g before old → runs.NetworkStep (logged_steps g) old d new → runs.Run (logged_steps g) new later last
-    → (s v : ℕ) → IsRecording (snapshots_of old d.router) s → LeavesFirst g d.router v (old.routers d.router).router (new.routers d.router).router
-    → ((snapshots_of new d.router).queue ≡ (snapshots_of old d.router).queue ++ Lost s v (side_of old d.router v).link.epoch Closed ∷ [])
-    × ((part : RouterPart) → HasMade last s d.router part → ⊥)
+    → (k v : ℕ) → IsRecording (snapshots_of old d.router) k → LeavesFirst g d.router v (old.routers d.router).router (new.routers d.router).router
+    → ((snapshots_of new d.router).queue ≡ (snapshots_of old d.router).queue ++ Lost k v (side_of old d.router v).link.epoch Closed ∷ [])
+    × ((part : RouterPart) → HasMade last k d.router part → ⊥)
 
 -- each event of one run that leaves Established loses the recording in this way
 abbrev pub ClosesLoseRecordings : Setting → RunOrder → RunState → Type 0
 ClosesLoseRecordings g order last =
     (d : NetworkEvent Own What MadeOffer) (old new : RunState) → IsEventOf g order last d old new
-    → (s v : ℕ) → IsRecording (snapshots_of old d.router) s → LeavesFirst g d.router v (old.routers d.router).router (new.routers d.router).router
-    → ((snapshots_of new d.router).queue ≡ (snapshots_of old d.router).queue ++ Lost s v (side_of old d.router v).link.epoch Closed ∷ [])
-    × ((part : RouterPart) → HasMade last s d.router part → ⊥)
+    → (k v : ℕ) → IsRecording (snapshots_of old d.router) k → LeavesFirst g d.router v (old.routers d.router).router (new.routers d.router).router
+    → ((snapshots_of new d.router).queue ≡ (snapshots_of old d.router).queue ++ Lost k v (side_of old d.router v).link.epoch Closed ∷ [])
+    × ((part : RouterPart) → HasMade last k d.router part → ⊥)
 
 -- ---- the place where a router recorded a snapshot
 
--- router u recorded s in a run to `last`: by the event that made s its last number; `new` is the state of the run behind it
-pub record RecordedAt (g : Setting) (order : RunOrder) (last : RunState) (u s : ℕ) (new : RunState) : Type 0 where
+-- router u recorded k in a run to `last`: by the event that made k its last number; `new` is the state of the run behind it
+pub record RecordedAt (g : Setting) (order : RunOrder) (last : RunState) (u k : ℕ) (new : RunState) : Type 0 where
   pub before : RunOrder
   pub event : RouterEvent
   pub later : RunOrder
@@ -61,8 +63,8 @@ pub record RecordedAt (g : Setting) (order : RunOrder) (last : RunState) (u s : 
   pub reached : IsRunTo g before old
   pub step : runs.NetworkStep (logged_steps g) old (record { router = u; event = event }) new
   pub goes_on : runs.Run (logged_steps g) new later last
-  pub greater : (snapshots_of old u).last < s
-  pub records : (snapshots_of new u).last ≡ s
+  pub greater : (snapshots_of old u).last < k
+  pub records : (snapshots_of new u).last ≡ k
 
 -- ---- the cut of a snapshot (Chandy and Lamport 1985): of each router, its events up to the one that recorded are
 -- inside
@@ -84,39 +86,41 @@ pub record IsCutLink (g : Setting) (at_u at_v : RunState) (u v : ℕ) (part : Ro
   pub channel : part.channel u ≡ map UpdateMsg in_flight
   pub sent : (side_of at_u u v).sent (side_of at_v v u).link.epoch ≡ (side_of at_v v u).acted (side_of at_v v u).link.epoch ++ in_flight
 
--- the recording events of s are a consistent cut, and these parts are what it leaves; `at u` is the state of the run as u recorded
-pub record IsCutOf (g : Setting) (order : RunOrder) (last : RunState) (s : ℕ) (parts : ℕ → RouterPart) (at : ℕ → RunState) : Type 0 where
-  pub recorded : (u : ℕ) → is_router g u ≡ true → RecordedAt g order last u s (at u)
-  pub states : (u : ℕ) → is_router g u ≡ true → IsPartOf g u ((at u).routers u).router (parts u)
-  pub links : (u v : ℕ) → linked g.net u v ≡ true → IsCutLink g (at u) (at v) u v (parts v)
+-- the recording events of k are a consistent cut, and these parts are what it leaves; `recordings u` is the state of
+-- the run as u recorded
+pub record IsCutOf (g : Setting) (order : RunOrder) (last : RunState) (k : ℕ) (parts : ℕ → RouterPart)
+    (recordings : ℕ → RunState) : Type 0 where
+  pub recorded : (u : ℕ) → is_router g u ≡ true → RecordedAt g order last u k (recordings u)
+  pub states : (u : ℕ) → is_router g u ≡ true → IsPartOf g u ((recordings u).routers u).router (parts u)
+  pub links : (u v : ℕ) → linked g.net u v ≡ true → IsCutLink g (recordings u) (recordings v) u v (parts v)
 
--- every router made its part of s
+-- every router made its part of k
 abbrev pub HaveMade : Setting → RunState → ℕ → (ℕ → RouterPart) → Type 0
-HaveMade g state s parts = (u : ℕ) → is_router g u ≡ true → HasMade state s u (parts u)
+HaveMade g state k parts = (u : ℕ) → is_router g u ≡ true → HasMade state k u (parts u)
 
 -- the parts of a snapshot are those of a consistent cut, whatever they hold
 abbrev pub PartsAreOfACut : Type 0
 PartsAreOfACut =
-    (g : Setting) → IsSetting g → (order : RunOrder) (state : RunState) → IsRunTo g order state → (s : ℕ) (parts : ℕ → RouterPart)
-    → HaveMade g state s parts → (at : ℕ → RunState) × IsCutOf g order state s parts at
+    (g : Setting) → IsSetting g → (order : RunOrder) (state : RunState) → IsRunTo g order state → (k : ℕ) (parts : ℕ → RouterPart)
+    → HaveMade g state k parts → (recordings : ℕ → RunState) × IsCutOf g order state k parts recordings
 
 -- ---- how a snapshot comes out, by all offers made
 
 abbrev pub ComesOut : Setting → RunState → ℕ → Outcome → Type 0
-ComesOut g state s outcome = HasOutcome (network_of g) s state.offered outcome
+ComesOut g state k outcome = HasOutcome (network_of g) k state.offered outcome
 
 -- a snapshot that is settled or moving has a part of every router
 abbrev pub DecidedHasAllParts : Type 0
 DecidedHasAllParts =
-    (g : Setting) → IsSetting g → (order : RunOrder) (state : RunState) → IsRunTo g order state → (s u : ℕ) → is_router g u ≡ true
-    → ComesOut g state s Settled ⊎ ((v : ℕ) × (why : Why) × ComesOut g state s (Moving v why))
-    → (part : RouterPart) × HasMade state s u part
+    (g : Setting) → IsSetting g → (order : RunOrder) (state : RunState) → IsRunTo g order state → (k u : ℕ) → is_router g u ≡ true
+    → ComesOut g state k Settled ⊎ ((v : ℕ) × (why : Why) × ComesOut g state k (Moving v why))
+    → (part : RouterPart) × HasMade state k u part
 
 -- the two parts of a link name one incarnation: no snapshot is moving by a mismatch
 abbrev pub MismatchNeverComes : Type 0
 MismatchNeverComes =
-    (g : Setting) → IsSetting g → (order : RunOrder) (state : RunState) → IsRunTo g order state → (s u v : ℕ)
-    → ComesOut g state s (Moving u (Mismatch v)) → ⊥
+    (g : Setting) → IsSetting g → (order : RunOrder) (state : RunState) → IsRunTo g order state → (k u v : ℕ)
+    → ComesOut g state k (Moving u (Mismatch v)) → ⊥
 
 -- ---- what holds of a settled snapshot
 
@@ -132,14 +136,14 @@ AreStable g parts =
 
 abbrev pub SettledIsStable : Type 0
 SettledIsStable =
-    (g : Setting) → IsSetting g → (order : RunOrder) (state : RunState) → IsRunTo g order state → (s : ℕ) → ComesOut g state s Settled
-    → (parts : ℕ → RouterPart) → HaveMade g state s parts → AreStable g parts
+    (g : Setting) → IsSetting g → (order : RunOrder) (state : RunState) → IsRunTo g order state → (k : ℕ) → ComesOut g state k Settled
+    → (parts : ℕ → RouterPart) → HaveMade g state k parts → AreStable g parts
 
 -- ---- the quiet stretch
 
 -- a command other than Snapshot
 abbrev pub IsCommand : RouterEvent → Type 0
-IsCommand (alone (Obeys (command.Snapshot s))) = ⊥
+IsCommand (alone (Obeys (command.Snapshot k))) = ⊥
 IsCommand (alone (Obeys c)) = Unit {0}
 IsCommand (alone Ticks) = ⊥
 IsCommand (alone (Handles v)) = ⊥
@@ -154,12 +158,12 @@ pub record IsQuiet (g : Setting) (u : ℕ) (x y : Router) (e : RouterEvent) : Ty
   pub no_command : IsCommand e → ⊥
   pub stays_up : (v : ℕ) → linked g.net u v ≡ true → is_up (x.sides v) ≡ true → is_up (y.sides v) ≡ true
 
--- a run is quiet since s: each step of a router after its own recording of s is quiet
+-- a run is quiet since k: each step of a router after its own recording of k is quiet
 abbrev pub IsQuietSince : Setting → ℕ → RunOrder → RunState → Type 0
-IsQuietSince g s order last =
+IsQuietSince g k order last =
     (before later : RunOrder) (d : NetworkEvent Own What MadeOffer) (old new at : RunState) → order ≡ before ++ d ∷ later
     → IsRunTo g before old → runs.NetworkStep (logged_steps g) old d new → runs.Run (logged_steps g) new later last
-    → RecordedAt g before old d.router s at
+    → RecordedAt g before old d.router k at
     → IsQuiet g d.router (old.routers d.router).router (new.routers d.router).router d.event
 
 -- at a place of the run, these are a router's kept path and its route for the prefix
@@ -171,40 +175,42 @@ HasRoute g at u q path = ((at.routers u).router.kept q ≡ path) × (best_path g
 abbrev pub SettledStays : Type 0
 SettledStays =
     (g : Setting) → IsSetting g → (before later : RunOrder) (at last : RunState) → IsRunTo g before at
-    → runs.Run (logged_steps g) at later last → (s : ℕ) → ComesOut g last s Settled → IsQuietSince g s before at
-    → (u : ℕ) (recording : RunState) (part : RouterPart) → RecordedAt g before at u s recording → HasMade last s u part
+    → runs.Run (logged_steps g) at later last → (k : ℕ) → ComesOut g last k Settled → IsQuietSince g k before at
+    → (u : ℕ) (new : RunState) (part : RouterPart) → RecordedAt g before at u k new → HasMade last k u part
     → (q : PrefixView) → names g.net.origins q ≡ true → HasRoute g at u q (part.kept q)
 
 -- ---- all of this together: a settled snapshot can be believed
 
 -- these parts are what a consistent cut leaves, their paths are a stable path assignment, and stay at `at`, a place of the run
-pub record IsBelievable (g : Setting) (before later : RunOrder) (at last : RunState) (s : ℕ) (parts : ℕ → RouterPart) : Type 0 where
+pub record IsBelievable (g : Setting) (before later : RunOrder) (at last : RunState) (k : ℕ) (parts : ℕ → RouterPart) : Type 0 where
   pub recordings : ℕ → RunState
-  pub cut : IsCutOf g (before ++ later) last s parts recordings
+  pub cut : IsCutOf g (before ++ later) last k parts recordings
   pub stable : AreStable g parts
-  pub stays : IsQuietSince g s before at → (u : ℕ) (recording : RunState) → is_router g u ≡ true → RecordedAt g before at u s recording
+  pub stays : IsQuietSince g k before at → (u : ℕ) (new : RunState) → is_router g u ≡ true
+      → RecordedAt g before at u k new
       → (q : PrefixView) → names g.net.origins q ≡ true → HasRoute g at u q ((parts u).kept q)
 
 -- the parts that all routers made of a settled snapshot; they made them by `DecidedHasAllParts`
 abbrev pub SettledSnapshotsCanBeBelieved : Type 0
 SettledSnapshotsCanBeBelieved =
     (g : Setting) → IsSetting g → (before later : RunOrder) (at last : RunState) → IsRunTo g before at
-    → runs.Run (logged_steps g) at later last → (s : ℕ) → ComesOut g last s Settled → (parts : ℕ → RouterPart) → HaveMade g last s parts
-    → IsBelievable g before later at last s parts
+    → runs.Run (logged_steps g) at later last → (k : ℕ) → ComesOut g last k Settled → (parts : ℕ → RouterPart) → HaveMade g last k parts
+    → IsBelievable g before later at last k parts
 
 -- ---- the snapshots of one run
 
 pub record SnapshotsHold (g : Setting) (order : RunOrder) (state : RunState) : Type 0 where
   -- a snapshot that is settled or moving has a part of every router, and no two parts name two incarnations of a link
-  pub all : (s u : ℕ) → is_router g u ≡ true → ComesOut g state s Settled ⊎ ((v : ℕ) × (why : Why) × ComesOut g state s (Moving v why))
-      → (part : RouterPart) × HasMade state s u part
-  pub mismatch : (s u v : ℕ) → ComesOut g state s (Moving u (Mismatch v)) → ⊥
+  pub all : (k u : ℕ) → is_router g u ≡ true → ComesOut g state k Settled ⊎ ((v : ℕ) × (why : Why) × ComesOut g state k (Moving v why))
+      → (part : RouterPart) × HasMade state k u part
+  pub mismatch : (k u v : ℕ) → ComesOut g state k (Moving u (Mismatch v)) → ⊥
   -- the parts are what a consistent cut leaves
-  pub cut : (s : ℕ) (parts : ℕ → RouterPart) → HaveMade g state s parts → (at : ℕ → RunState) × IsCutOf g order state s parts at
+  pub cut : (k : ℕ) (parts : ℕ → RouterPart) → HaveMade g state k parts
+      → (recordings : ℕ → RunState) × IsCutOf g order state k parts recordings
   -- the paths of a settled snapshot are a stable path assignment, which stays
-  pub settled : (s : ℕ) → ComesOut g state s Settled → (parts : ℕ → RouterPart) → HaveMade g state s parts
+  pub settled : (k : ℕ) → ComesOut g state k Settled → (parts : ℕ → RouterPart) → HaveMade g state k parts
       → (before later : RunOrder) (at : RunState) → order ≡ before ++ later → IsRunTo g before at → runs.Run (logged_steps g) at later state
-      → IsBelievable g before later at state s parts
+      → IsBelievable g before later at state k parts
 
 abbrev pub SnapshotsHoldInRuns : Type 0
 SnapshotsHoldInRuns = (g : Setting) → IsSetting g → (order : RunOrder) (state : RunState) → IsRunTo g order state → SnapshotsHold g order state
