@@ -17,7 +17,8 @@ use Rattle.world_core.specs.declared.schedule.StepFault.{StepFault}
 use Rattle.world_core.specs.World.{World, new_world, WorldAnswer, Does, Nothing, Stops, Gives, Played, world_of, onward, played, world_answer, world_after, IsReplayed}
 use Rattle.world_core.specs.Orders.{IsRefused, StopsAt}
 use Rattle.world_core.specs.Keeping.{StepsAreReplayed, PlayedWorldsKeepTheirPromises}
-use Rattle.world_core.specs.Views.{WorldView, plain_world, new_stamped, at_number, pipes_of, pipes_to, items_from, IsNewRouter, Opens, ComesOut, Answers, Plays, Reaches, KeepsPromises}
+use Rattle.world_core.specs.Views.{WorldView, plain_world, new_stamped, at_number, pipes_of, pipes_to, items_from, IsNewRouter, Opens, ComesOut, Answers, Plays, Reaches, KeepsPromises, IsWhole}
+use Rattle.world_core.specs.Steps.{StepsTo}
 use Rattle.world_core.proofs.Stepping.{same_world}
 
 keeps : StepsAreReplayed → (g : Setting) (r : Result Stepped StepFault) (a : WorldAnswer) (w z : World) (event : Event) → world_answer g w event ≡ a → Gives g r a w event z → IsReplayed g w → IsReplayed g z
@@ -29,6 +30,10 @@ keeps law g r (Stops fault) w z event is h was = subst (IsReplayed g) (sym h.1) 
 pub comes_out : StepsAreReplayed → (x y : WorldView) (event : Event) (r : Result Stepped StepFault) → ComesOut x → y.net ≡ x.net → Answers r x event y → ComesOut y
 comes_out law x y event r was same answers g e ranks =
     keeps law g r (world_answer g (plain_world x) event) (plain_world x) (plain_world y) event refl (answers g (e ∙ same) ranks) (was g (e ∙ same) ranks)
+
+-- a step leaves a world
+pub stepped : StepsAreReplayed → (x y : WorldView) (event : Event) (r : Result Stepped StepFault) → ComesOut x → StepsTo r x event y → IsWhole y × ComesOut y
+stepped law x y event r was left = (left.whole, comes_out law x y event r was left.same left.answers)
 
 pub promises : PlayedWorldsKeepTheirPromises → (x : WorldView) → ComesOut x → KeepsPromises x
 promises law x was g e set = law g set x.run (plain_world x) (was g e set.chooses)

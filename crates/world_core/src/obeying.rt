@@ -6,7 +6,7 @@ ghost use Rattle.world_core.specs.declared.schedule.Event.TheVariants.{Put, Take
 ghost use Rattle.world_core.specs.Orders.{with_peer, turn, round, second, repeated, events_of};
 ghost use Rattle.world_core.specs.IdleTurns.{TurnsAreIdle, TurnsAreIdleBeside};
 ghost use Rattle.world_core.specs.Steps.{IsPlaced};
-ghost use Rattle.world_core.specs.Views.{ArePlaced, Answers, Obeys, KeepsPromises};
+ghost use Rattle.world_core.specs.Views.{ArePlaced, Obeys, KeepsPromises};
 ghost use Rattle.world_core.specs.Watching.{WatchesEvents, WatchesRounds, WatchesOrder};
 
 use crate::idle_turns::{is_marked, mark, no_marks};
@@ -239,7 +239,7 @@ impl<'a> World<'a> {
             (Decide number ∷ Advertise number ∷ Offer number ∷ []) (W.said watcher.old) self.new (W.said watcher.new) }
         ensures same { self.new.net ≡ self.old.net }
     {
-        if self.state.is_idle_at(at, number) {
+        if self.state.routers[at].is_idle() {
             return Ok(());
         }
         self.watched(at, 0, &Event::Decide(number), watcher)?;
@@ -270,21 +270,12 @@ impl<'a> World<'a> {
             self.new (W.said watcher.new) }
         ensures same { self.new.net ≡ self.old.net }
     {
+        steps_are_replayed();
         watcher.before_event(self, event)?;
-        match self.step_at(at, place, event)? {
+        match self.state.step_at(at, place, event)? {
             Stepped::Did => watcher.behind_event(self, event)?,
             Stepped::Nothing => {}
         }
         Ok(())
-    }
-
-    // Does an event of the router at a place, with the peer at a place if it names one.
-    fn step_at(&mut self, at: usize, place: usize, event: &Event) -> Result<Stepped, StepFault>
-        requires { IsPlaced self.old.net event.now at place }
-        ensures answers { Answers result self.old event.now self.new }
-        ensures same { self.new.net ≡ self.old.net }
-    {
-        steps_are_replayed();
-        self.state.step_at(at, place, event)
     }
 }

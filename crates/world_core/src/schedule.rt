@@ -117,5 +117,6 @@ pub(crate) fn join(run: &mut Vec<Event>, event: &Event)
     requires { vec_len run.old < vec_capacity run.old }
     ensures { run.new.items ≡ run.old.items ++ event.now ∷ [] }
 {
+    // as a slice of one: rattle has no proof of a caller that gives a copy of an event to `push_reserved`
     run.extend_from_slice(from_ref(event)).unwrap();
 }

@@ -1,11 +1,11 @@
 //! The state of a world, and how each event changes it.
 
 ghost use Rattle.std.specs.Prelude.{◌≡◌, map, MatchOption, Some, true};
-ghost use Rattle.world_core.specs.declared.schedule.Event.TheVariants.{Put, Take, Handle, Offer};
+ghost use Rattle.world_core.specs.declared.schedule.Event.TheVariants.{Offer};
 ghost use Rattle.router_model.specs.Settings.{peers};
 ghost use Rattle.router_core.specs.Calling.{call_of};
 ghost use Rattle.world_core.specs.Views.{IsWhole, IsNoRouter, IsRouterOf, comes_next, NothingComes};
-ghost use Rattle.world_core.specs.Steps.{view_of, Leaves, StepsTo, Asks, StandsAt, LinkAt, IsPlaceOf, FindsLink, IsPlaced, FindsPlaces, LinkIsIdle, IsIdle};
+ghost use Rattle.world_core.specs.Steps.{view_of, Leaves, StepsTo, Asks, StandsAt, LinkAt, IsPlaceOf, FindsLink, IsPlaced, FindsPlaces, LinkIsIdle};
 
 use crate::inbox::{Inbox, Pipe, place_of};
 use crate::logged_calls::{enter_offer, enter_put, enter_take, log_answer};
@@ -86,73 +86,6 @@ impl<'a> State<'a> {
         (pipe.router, pipe.back)
     }
 
-    // Lets a router handle the message of a peer. The router and the pipe from the peer stand at these places.
-    fn handle_at(
-        &mut self,
-        at: usize,
-        pipe: usize,
-        number: Asn,
-        peer: Asn,
-    ) -> Result<Stepped, StepFault>
-        requires { LinkAt (view_of self.old) number peer at pipe }
-        ensures { StepsTo result (view_of self.old) (Handle number peer) (view_of self.new) }
-    {
-        answers_are_steps();
-        let room = self.run.reserve(1);
-        let called = self.routers[at].handle_at(pipe, peer, room);
-        log_answer(&mut self.run, &Event::Handle(number, peer), called)
-    }
-
-    // Lets a router put its next item into the pipe to a peer. The router and the pipe from the peer stand at these
-    // places.
-    fn put_at(
-        &mut self,
-        at: usize,
-        pipe: usize,
-        number: Asn,
-        peer: Asn,
-    ) -> Result<Stepped, StepFault>
-        requires { LinkAt (view_of self.old) number peer at pipe }
-        ensures { StepsTo result (view_of self.old) (Put number peer) (view_of self.new) }
-    {
-        answers_are_steps();
-        let (to, into) = self.back_at(at, pipe, number, peer);
-        let items = &mut self.inboxes[to].pipes[into].items;
-        let event = Event::Put(number, peer);
-        enter_put(
-            &mut self.routers[at],
-            &mut self.run,
-            items,
-            &event,
-            pipe,
-            peer,
-        )
-    }
-
-    // Lets a router take the next item of the pipe from a peer. The router and the pipe stand at these places.
-    fn take_at(
-        &mut self,
-        at: usize,
-        pipe: usize,
-        number: Asn,
-        peer: Asn,
-    ) -> Result<Stepped, StepFault>
-        requires { LinkAt (view_of self.old) number peer at pipe }
-        ensures { StepsTo result (view_of self.old) (Take number peer) (view_of self.new) }
-    {
-        answers_are_steps();
-        let items = &mut self.inboxes[at].pipes[pipe].items;
-        let event = Event::Take(number, peer);
-        enter_take(
-            &mut self.routers[at],
-            &mut self.run,
-            items,
-            &event,
-            pipe,
-            peer,
-        )
-    }
-
     // Lets the router at a place make the offer that waits in front.
     fn offer_at(&mut self, at: usize, number: Asn) -> Result<Stepped, StepFault>
         requires { StandsAt (view_of self.old) number at }
@@ -188,15 +121,6 @@ impl<'a> State<'a> {
         }
     }
 
-    /// Whether it shows, without a look at any path, that the router at a place has nothing to decide, nobody to tell and
-    /// nothing to offer.
-    pub fn is_idle_at(&self, at: usize, number: Asn) -> bool
-        requires { StandsAt (view_of self.now) number at }
-        ensures { result ≡ true → IsIdle (view_of self.now) number }
-    {
-        self.routers[at].is_idle()
-    }
-
     /// The item that a router takes next from a peer, if one is on its way.
     pub fn next_to_take(&self, number: Asn, peer: Asn) -> Option<&Item>
         requires { IsWhole (view_of self.now) }
@@ -226,15 +150,29 @@ impl<'a> State<'a> {
         requires placed { IsPlaced (view_of self.old).net event.now at pipe }
         ensures { StepsTo result (view_of self.old) event.now (view_of self.new) }
     {
+        answers_are_steps();
         linked_routers_are_peers();
         match *event {
             Event::Command(number, command) => {
                 self.ask_at(at, event, number, &Call::Obey(command))
             }
             Event::Tick(number) => self.ask_at(at, event, number, &Call::Tick),
-            Event::Put(number, peer) => self.put_at(at, pipe, number, peer),
-            Event::Take(number, peer) => self.take_at(at, pipe, number, peer),
-            Event::Handle(number, peer) => self.handle_at(at, pipe, number, peer),
+            Event::Put(number, peer) => {
+                let (to, into) = self.back_at(at, pipe, number, peer);
+                let items = &mut self.inboxes[to].pipes[into].items;
+                let router = &mut self.routers[at];
+                enter_put(router, &mut self.run, items, event, pipe, peer)
+            }
+            Event::Take(_, peer) => {
+                let items = &mut self.inboxes[at].pipes[pipe].items;
+                let router = &mut self.routers[at];
+                enter_take(router, &mut self.run, items, event, pipe, peer)
+            }
+            Event::Handle(_, peer) => {
+                let room = self.run.reserve(1);
+                let called = self.routers[at].handle_at(pipe, peer, room);
+                log_answer(&mut self.run, event, called)
+            }
             Event::Decide(number) => self.ask_at(at, event, number, &Call::Decide),
             Event::Advertise(number) => self.ask_at(at, event, number, &Call::Advertise),
             Event::Offer(number) => self.offer_at(at, number),

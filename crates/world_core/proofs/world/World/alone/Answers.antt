@@ -1,23 +1,30 @@
-use Rattle.std.proofs.Common.{◌∷◌, [], ◌≡◌, sym, subst, ◌∙◌, Err}
+use Rattle.std.proofs.Common.{◌∷◌, [], ◌≡◌, sym, subst, ◌∙◌, Err, rules}
 use Rattle.std.specs.Prelude.{slice_get, Some}
 use Rattle.std.proofs.lemmas.Result.{err_from_is_err_and}
 use Rattle.ranked_policy.specs.Plans.{Plan, numbers}
 use Rattle.world_core.specs.declared.schedule.Event.TheVariants as schedule
 use Rattle.world_core.specs.Steps.{view_of, IsIdle}
 use Rattle.world_core.specs.Views.{WorldView}
+use Rattle.world_core.proofs.Places.{is_below}
+use Rattle.world_core.proofs.Quiet.{idle}
 use Rattle.world_core.proofs.Staying.{stands_here}
 use Rattle.world_core.proofs.Watched.{idle_over, watched_before, watched_behind}
 use Rattle.world_core.proofs.world.World.alone.Goals as goal
 
-pub is_idle_at-requires : goal.is_idle_at-requires
-is_idle_at-requires g c =
-    stands_here (view_of c.self.inside.state) c.args.number c.args.at c.self.invariant.0
-    (subst (λ (y : WorldView). slice_get (numbers y.net.routers) c.args.at ≡ Some c.args.number) (sym c.self.view_is) c.requires)
+pub index-requires : goal.index-requires
+index-requires g c =
+    let s = c.self.inside.state in
+    let at = stands_here (view_of s) c.args.number c.args.at c.self.invariant.0 (subst (λ (y : WorldView). slice_get (numbers y.net.routers) c.args.at ≡ Some c.args.number) (sym c.self.view_is) c.requires) in
+    let inside = is_below (λ r. r.number) s.routers.items c.args.number c.args.at at.router in
+    search rules
 
-pub returns-then-is_idle_at-clause-watches : goal.returns-then-is_idle_at-clause-watches
-returns-then-is_idle_at-clause-watches g c =
-    idle_over g.W.Watch.says g.W.Watch.may_want c.args.self.now c.args.number (g.W.Watch.said c.args.watcher.now)
-    (subst (λ (y : WorldView). IsIdle y c.args.number) c.self.view_is (c.is_idle_at.ensures c.if-is_idle_at.true))
+pub returns-then-is_idle-clause-watches : goal.returns-then-is_idle-clause-watches
+returns-then-is_idle-clause-watches g c =
+    let x = view_of c.self.inside.state in
+    let yes = c.if-is_idle.true in
+    let at = stands_here x c.args.number c.args.at c.self.invariant.0 (subst (λ (y : WorldView). slice_get (numbers y.net.routers) c.args.at ≡ Some c.args.number) (sym c.self.view_is) c.requires) in
+    let rests = idle x c.args.number c.args.at c.index.result.now at c.index.ensures (c.is_idle.ensures.decide yes) (c.is_idle.ensures.advertise yes) (c.is_idle.ensures.offer yes) in
+    idle_over g.W.Watch.says g.W.Watch.may_want c.args.self.now c.args.number (g.W.Watch.said c.args.watcher.now) (subst (λ (y : WorldView). IsIdle y c.args.number) c.self.view_is rests)
 
 pub returns-in_err-watched-clause-watches : goal.returns-in_err-watched-clause-watches
 returns-in_err-watched-clause-watches g c =
