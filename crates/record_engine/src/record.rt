@@ -4,21 +4,18 @@ ghost use Rattle.std.specs.Prelude.{◌≡◌, IfOk};
 ghost use Rattle.net_text.specs.Lexing.{lines_of};
 ghost use Rattle.text_engines.specs.Decoding.{output};
 ghost use Rattle.text_engines.specs.Engine.{IsAnswered};
-ghost use Rattle.record_engine.specs.Recording.{events_of, ending_text, record_output, RecordGives, InputRecords, Records};
+ghost use Rattle.record_engine.specs.Recording.{events_of, ending_text, record_output, RecordGives, LinesRecord, Records};
 
 use crate::text::{ending_text, record_text};
-use net_text::{Code, put_comments, read_network};
+use net_text::{put_comments, read_network};
 use net_workers::Record;
 use ranked_policy::Network;
 use std::alloc::{AllocError, Global};
 use std::sync::Wait;
 use std::thread::Threads;
 use text_engines::status::DONE;
-use text_engines::{
-    INPUT_LIMIT, InputError, IoStopped, Sink, Source, put_limit, read_input, refused_output,
-    text_output, want_of_memory, write_output,
-};
-use thread_runs::{RunOptions, fault_output, record_network};
+use text_engines::{IoStopped, Sink, Source, answer_by, put_limit, text_output};
+use thread_runs::{RunOptions, fault_output, run_network};
 
 /// What is printed of a record of a network of these lines, and the status: the lines, the line `schedule`, and each
 /// event of the record as an order, as they stand there; behind them, as comments, how each snapshot that is decided
@@ -57,8 +54,9 @@ where
     ensures { IfOk result
         (λ printed. RecordGives options.now (lines_of lines.now) network.now (output printed.0.items printed.1)) }
 {
-    match record_network(rt, alloc, options, network) {
-        Ok(record) => {
+    match run_network(rt, alloc, options, network) {
+        Ok(journals) => {
+            let record = journals.gather(alloc)?;
             let _ = record.collector.decided();
             record_output(alloc, lines, network, &record)
         }
@@ -66,23 +64,19 @@ where
     }
 }
 
-// What is printed for an input, and the status.
-fn input_output<R>(
+// What is printed for the lines of a network, and the status.
+fn lines_output<R>(
     rt: &R,
     alloc: Global,
     options: &RunOptions,
-    input: Vec<u8>,
+    text: &[u8],
 ) -> Result<(Vec<u8>, u8), AllocError>
 where
     R: Threads + Wait + Sync,
-    ensures { IfOk result (λ printed. InputRecords options.now input.items (output printed.0.items printed.1)) }
+    ensures { IfOk result (λ printed. LinesRecord options.now (lines_of text.now) (output printed.0.items printed.1)) }
 {
-    if input.len() > INPUT_LIMIT {
-        return refused_output(alloc, 0, Code::OutOfLimit.text());
-    }
-    let lines = input.as_slice();
-    match read_network(alloc, lines) {
-        Ok(network) => network_output(rt, alloc, options, lines, &network),
+    match read_network(alloc, text) {
+        Ok(network) => network_output(rt, alloc, options, text, &network),
         Err(refused) => text_output(alloc, &refused),
     }
 }
@@ -108,9 +102,6 @@ where
     ensures { IsAnswered (Records options.now) (S.remaining source.old) (T.contents sink.old) (T.contents sink.new)
         (S.failed source.old) (S.failed source.new) (T.failed sink.old) (T.failed sink.new) result }
 {
-    match read_input(alloc, source) {
-        Ok(input) => write_output(sink, input_output(rt, alloc, options, input)),
-        Err(InputError::Memory) => want_of_memory(sink),
-        Err(InputError::Stopped) => Err(IoStopped),
-    }
+    let answer = |text: &[u8]| lines_output(rt, alloc, options, text);
+    answer_by(alloc, answer, source, sink)
 }

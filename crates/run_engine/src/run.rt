@@ -5,12 +5,12 @@ ghost use Rattle.std.specs.List.{AllByRecursion};
 ghost use Rattle.net_text.specs.Lexing.{lines_of};
 ghost use Rattle.text_engines.specs.Decoding.{output};
 ghost use Rattle.text_engines.specs.Engine.{IsAnswered, WrittenBy, WrittenFrontBy};
-ghost use Rattle.run_engine.specs.Running.{HasSetting, RunGives, InputRuns, Runs, Gated};
+ghost use Rattle.run_engine.specs.Running.{HasSetting, RunGives, LinesRun, Runs, Gated};
 
 use crate::settled::{Demand, settled_output};
 use crate::threads::threads_output;
 use bgp_codec::Message;
-use net_text::{Code, read_network};
+use net_text::read_network;
 use net_workers::laws::events_can_be_sorted;
 use net_workers::{Gate, Limits};
 use prefix_lanes::Prefix;
@@ -20,10 +20,7 @@ use run_model::outcome_is_one;
 use std::alloc::{AllocError, Global};
 use std::sync::Wait;
 use std::thread::Threads;
-use text_engines::{
-    INPUT_LIMIT, InputError, IoStopped, Sink, Source, read_input, refused_output, text_output,
-    want_of_memory, write_output,
-};
+use text_engines::{IoStopped, Sink, Source, answer_by, text_output, write_output};
 use thread_runs::{RunOptions, fault_output, run_network};
 use world_core::laws::members_are_the_routers;
 
@@ -100,21 +97,18 @@ where
     }
 }
 
-// What is printed for an input, and the status.
-fn run_output<R>(
+// What is printed for the lines of a network, and the status.
+fn lines_output<R>(
     rt: &R,
     alloc: Global,
     options: &RunOptions,
-    input: Vec<u8>,
+    text: &[u8],
 ) -> Result<(Vec<u8>, u8), AllocError>
 where
     R: Threads + Wait + Sync,
-    ensures { IfOk result (λ printed. InputRuns options.now input.items (output printed.0.items printed.1)) }
+    ensures { IfOk result (λ printed. LinesRun options.now (lines_of text.now) (output printed.0.items printed.1)) }
 {
-    if input.len() > INPUT_LIMIT {
-        return refused_output(alloc, 0, Code::OutOfLimit.text());
-    }
-    match read_network(alloc, input.as_slice()) {
+    match read_network(alloc, text) {
         Ok(network) => network_output(rt, alloc, options, &network),
         Err(refused) => text_output(alloc, &refused),
     }
@@ -139,9 +133,6 @@ where
     ensures { IsAnswered (Runs options.now) (S.remaining source.old) (T.contents sink.old) (T.contents sink.new)
         (S.failed source.old) (S.failed source.new) (T.failed sink.old) (T.failed sink.new) result }
 {
-    match read_input(alloc, source) {
-        Ok(input) => write_output(sink, run_output(rt, alloc, options, input)),
-        Err(InputError::Memory) => want_of_memory(sink),
-        Err(InputError::Stopped) => Err(IoStopped),
-    }
+    let answer = |text: &[u8]| lines_output(rt, alloc, options, text);
+    answer_by(alloc, answer, source, sink)
 }

@@ -2,7 +2,7 @@
 //! in turns, and the least router takes the snapshots.
 //!
 //! [`run_network`] answers what a network did that ran for [`RunOptions`], at the word of gates that [`new_gates`]
-//! makes, each a [`RunGate`], and [`record_network`] its record; [`fault_output`] makes the text where there is none. The definitions stand in `specs/`:
+//! makes, each a [`RunGate`]; [`fault_output`] makes the text where it did not run. The definitions stand in `specs/`:
 //! `Gates` (what routers are told) and `Records`. Left out: what is printed of a record, by `run_engine` and
 //! `record_engine`.
 #![tactic(auto)]
@@ -13,4 +13,4 @@ mod network;
 
 pub use chores::{RunOptions, new_gates};
 pub use gates::RunGate;
-pub use network::{fault_output, record_network, run_network};
+pub use network::{fault_output, run_network};

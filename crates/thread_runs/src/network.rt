@@ -3,8 +3,8 @@
 
 ghost use Rattle.std.specs.Prelude.{◌≡◌, ◌≢◌, map, IfOk, IfErr, OnOk};
 ghost use Rattle.net_workers.specs.declared.record.RunFault.TheVariants.{Memory};
-ghost use Rattle.net_workers.specs.Ran.{IsRecord, AreRecord};
-ghost use Rattle.net_workers.specs.Runs.{RunKeepsPromises, JournalsKeepPromises};
+ghost use Rattle.net_workers.specs.Ran.{AreRecord};
+ghost use Rattle.net_workers.specs.Runs.{JournalsKeepPromises};
 ghost use Rattle.net_workers.specs.Ways.{AreWays, passed_in};
 ghost use Rattle.net_workers.specs.Faults.{FaultOf};
 ghost use Rattle.text_engines.specs.Decoding.{output};
@@ -13,7 +13,7 @@ ghost use Rattle.thread_runs.specs.Records.{IsFaultOfRun, faulty, run_tellings};
 
 use crate::chores::{RunOptions, new_gates, spacing};
 use crate::gates::RunGate;
-use net_workers::{Journals, Limits, Record, RunFault, run_journals};
+use net_workers::{Journals, Limits, RunFault, run_journals};
 use ranked_policy::Network;
 use std::alloc::{AllocError, Global};
 use std::sync::Wait;
@@ -56,35 +56,6 @@ where
         turns: options.turns,
     };
     run_journals(rt, alloc, network, gates, limits)
-}
-
-/// Does what [`run_network`] does, is refused as it is, and gathers the events: for want of memory for them it answers
-/// [`RunFault::Memory`].
-pub fn record_network<'a, R>(
-    rt: &R,
-    alloc: Global,
-    options: &RunOptions,
-    network: &'a Network,
-) -> Result<Record<'a, RunGate>, RunFault>
-where
-    R: Threads + Wait + Sync,
-    ensures room { OnOk result (HasRoom network.now options.now) }
-    ensures refused { IfErr result (IsFaultOfRun options.now network.now) }
-    ensures fault { IfErr result
-        (FaultOf given_by told_of network.now options.now.turns (run_tellings options.now network.now)) }
-    ensures told { IfOk result (λ r. map (λ w. told_of w.gate) r.workers.items ≡ run_tellings options.now network.now) }
-    ensures ways { IfOk result (λ r. AreWays network.now r.ways.items) }
-    ensures recorded { IfOk result
-        (λ r. IsRecord given_by network.now options.now.turns (passed_in r.ways.items) r.workers.items r.collector
-        r.gathered.items) }
-    ensures promises { IfOk result
-        (λ r. RunKeepsPromises network.now (passed_in r.ways.items) r.workers.items r.collector r.gathered.items) }
-{
-    let journals = run_network(rt, alloc, options, network)?;
-    match journals.gather(alloc) {
-        Ok(record) => Ok(record),
-        Err(_) => Err(RunFault::Memory),
-    }
 }
 
 /// The text printed for a fault of the run, and the exit status. Want of memory is no such fault: it is an error here.

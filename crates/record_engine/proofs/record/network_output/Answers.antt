@@ -6,9 +6,10 @@ use Rattle.text_engines.proofs.CheckLemmas.{if_ok, both_ok}
 use Rattle.record_engine.proofs.RecordLemmas.{record_fails}
 use Rattle.record_engine.proofs.record.network_output.Goals as goal
 
-pub returns-in-Ok : goal.returns-in-Ok
-returns-in-Ok g c =
-    let r = c.in-Ok.record in
+pub returns-in_ok-record-in-Ok : goal.returns-in_ok-record-in-Ok
+returns-in_ok-record-in-Ok g c =
+    let r = c.in_ok-record-in-Ok.record in
+    let e = c.in_ok-record-in-Ok.ensures in
     if_ok _ _ c.record_output.result
     (λ printed is. inr (
       c.in-Ok.ensures.room,
@@ -18,10 +19,10 @@ returns-in-Ok g c =
           ways = r.ways.items;
           collector = r.collector;
           gathered = r.gathered.items;
-          recorded = c.in-Ok.ensures.recorded;
-          pipes = c.in-Ok.ensures.ways;
-          gates = c.in-Ok.ensures.told;
-          promises = c.in-Ok.ensures.promises;
+          recorded = rw (e.workers, e.ways, e.collector) (c.in-Ok.ensures.recorded r.gathered.items e.sorted);
+          pipes = rw (e.ways) c.in-Ok.ensures.ways;
+          gates = rw (e.workers) c.in-Ok.ensures.told;
+          promises = rw (e.workers, e.ways, e.collector) (c.in-Ok.ensures.promises r.gathered.items e.sorted);
         };
         are_decided = subst (λ (ns : List ℕ). AreDecided r.collector ns) c.decided.ensures.value c.decided.ensures.decided;
         printed = is;

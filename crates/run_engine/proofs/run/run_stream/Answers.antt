@@ -1,20 +1,15 @@
-use Rattle.std.proofs.Common.{ℕ, List, Err, ap, inr, refl}
+use Rattle.std.proofs.Common.{ℕ, List, rules, subst, sym}
 use Rattle.net_text.specs.Lexing.{lines_of}
-use Rattle.text_engines.proofs.WritingLemmas.{unread_answered, memory_answered, made_answered, limited_made}
-use Rattle.run_engine.specs.Running.{LinesRun, Runs}
+use Rattle.text_engines.specs.Decoding.{output}
+use Rattle.text_engines.proofs.WritingLemmas.{answered_more, or_memory_more}
+use Rattle.run_engine.specs.Running.{LinesRun}
 use Rattle.run_engine.proofs.run.run_stream.Goals as goal
 
-pub returns-in-Err-Stopped : goal.returns-in-Err-Stopped
-returns-in-Err-Stopped g c = unread_answered (Runs c.args.options.now) _ _ _ _ _ _ (λ input. inr refl) (c.in-Err-Stopped.ensures.stopped (ap Err c.in-Err-Stopped.field-0-is))
-
-pub returns-in-Err-Memory : goal.returns-in-Err-Memory
-returns-in-Err-Memory g c =
-    let memory = c.want_of_memory.ensures in
-    memory_answered (Runs c.args.options.now) _ _ _ _ _ _ _ c.want_of_memory.result (λ input. inr refl) (c.in-Err-Memory.ensures.short (ap Err c.in-Err-Memory.field-0-is)) memory.ok memory.stopped memory.failed memory.unfailed
-
-pub returns-in-Ok : goal.returns-in-Ok
-returns-in-Ok g c =
+pub returns : goal.returns
+returns g c =
     let gives = λ (text : List ℕ). LinesRun c.args.options.now (lines_of text) in
-    let made = c.run_output.result in
-    let written = c.write_output.ensures in
-    made_answered (Runs c.args.options.now) _ _ _ _ _ _ _ made c.write_output.result c.in-Ok.ensures.unfailed (limited_made gives _ c.in-Ok.input.items made c.in-Ok.ensures.ok c.run_output.ensures) written.done written.stopped written.failed written.unfailed
+    answered_more _ _ (or_memory_more _ gives
+    (λ text out given.
+    let one : gives given.1.0.now (output given.0.0.items given.0.1) = search rules in
+    subst (gives text) (sym given.2) (subst (λ (t : List ℕ). gives t (output given.0.0.items given.0.1)) given.1.2 one)))
+    _ _ _ _ _ _ _ _ c.answer_by.ensures
