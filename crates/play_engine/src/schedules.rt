@@ -1,7 +1,7 @@
 //! The text printed for a network and the orders of a schedule.
 
 ghost use Rattle.std.specs.Prelude.{◌≡◌, ◌≢◌, ◌++◌, IfOk, OnOk};
-ghost use Rattle.world_core.specs.Views.{plain_world, Opens, KeepsPromises};
+ghost use Rattle.world_core.specs.Views.{plain_world, KeepsPromises};
 ghost use Rattle.text_engines.specs.Decoding.{output};
 ghost use Rattle.schedule_text.specs.Routes.{routes_text};
 ghost use Rattle.play_engine.specs.Playing.{Obeyed, IsReport, Shows, stopped, OrdersGive};
@@ -100,25 +100,6 @@ fn stop_output(alloc: Global, stop: RefusedOrder) -> Result<(Vec<u8>, u8), Alloc
     Ok((out, REFUSED))
 }
 
-// The text printed for orders in a world in which nothing was done, and the exit status.
-fn world_output(
-    alloc: Global,
-    shown: Shown,
-    network: &Network,
-    mut world: World<'_>,
-    orders: &[ScheduledOrder],
-) -> Result<(Vec<u8>, u8), AllocError>
-    requires opens { Opens network.now world }
-    requires promises { KeepsPromises world }
-    ensures { IfOk result
-        (λ printed. OrdersGive (IsShown shown) network.now orders.now (output printed.0.items printed.1)) }
-{
-    match obey_all(&mut world, orders) {
-        Ok(()) => shown_output(alloc, shown, network, world),
-        Err(stop) => stop_output(alloc, stop),
-    }
-}
-
 /// The text printed for the orders of a schedule, and the exit status.
 pub(crate) fn orders_output(
     alloc: Global,
@@ -129,8 +110,11 @@ pub(crate) fn orders_output(
     ensures { IfOk result
         (λ printed. OrdersGive (IsShown shown) network.now orders.now (output printed.0.items printed.1)) }
 {
-    match World::new(alloc, network) {
-        Ok(world) => world_output(alloc, shown, network, world, orders),
-        Err(_) => Err(AllocError),
+    let Ok(mut world) = World::new(alloc, network) else {
+        return Err(AllocError);
+    };
+    match obey_all(&mut world, orders) {
+        Ok(()) => shown_output(alloc, shown, network, world),
+        Err(stop) => stop_output(alloc, stop),
     }
 }
