@@ -33,26 +33,6 @@ pub(super) fn overflows(event: SessionEvent, peers: &[Peer], own_open: &Message)
     false
 }
 
-// The drafts of these sides, with room for each. A refusal leaves the sides as they were.
-fn prepare_each(
-    alloc: Global,
-    event: SessionEvent,
-    peers: &mut [Peer],
-    own_open: &Message,
-) -> Result<Vec<SideDraft>, AllocError>
-    requires { (w : widths.Width) → IsSayable w own_open.now }
-    ensures same { Become (λ s. s) peers.old peers.new }
-    ensures ready { IfOk result (λ made. AreReady own_open.now (draft_by event own_open.now) peers.new made.items) }
-{
-    let mut drafts = Vec::new(alloc);
-    for peer in peers.iter_mut() {
-        let made = drafted(event, &peer.end, own_open);
-        peer.end.reserve(own_open, &Brought::Nothing, &made)?;
-        drafts.push(made)?;
-    }
-    Ok(drafts)
-}
-
 // Drafts the sides of all peers, with room for each. A refusal leaves the sides as they were.
 fn prepare(
     alloc: Global,
@@ -65,7 +45,13 @@ fn prepare(
     ensures ready { IfOk result
         (λ made. AreReady own_open.now (draft_by event own_open.now) peers.new.items made.items) }
 {
-    prepare_each(alloc, event, peers.as_mut_slice(), own_open)
+    let mut drafts = Vec::new(alloc);
+    for peer in peers.iter_mut() {
+        let made = drafted(event, &peer.end, own_open);
+        peer.end.reserve(own_open, &Brought::Nothing, &made)?;
+        drafts.push(made)?;
+    }
+    Ok(drafts)
 }
 
 // Whether a timer of some session runs out in the next second.
@@ -80,20 +66,13 @@ fn runs_out(peers: &[Peer]) -> bool
     false
 }
 
-// Counts the timers of each of these sessions down by one second.
-fn count_down_each(peers: &mut [Peer])
-    ensures { Become counted_down peers.old peers.new }
-{
-    for peer in peers.iter_mut() {
-        peer.end.count_down();
-    }
-}
-
 // Counts the timers of all sessions down by one second.
 fn count_down_all(peers: &mut Vec<Peer>)
     ensures { Become counted_down peers.old.items peers.new.items }
 {
-    count_down_each(peers.as_mut_slice());
+    for peer in peers.iter_mut() {
+        peer.end.count_down();
+    }
 }
 
 impl Router<'_> {
