@@ -180,6 +180,16 @@ impl<'a> Rib<'a> {
         ensures err { OnErr result (self.new ≡ self.old) }
     {
         let place = self.peer_place(peer);
+        self.hear_at(place, peer, update)
+    }
+
+    /// Does what [`Rib::hear`] does, and is refused as it is, for the peer at a place among the router's peers, by
+    /// rising number.
+    pub fn hear_at(&mut self, place: usize, peer: Asn, update: &Update) -> Result<(), RibError>
+        requires stands { slice_get (peers self.old.net self.old.router) place ≡ Some peer }
+        ensures ok { OnOk result (HearsUpdate self.old self.new peer update.now) }
+        ensures err { OnErr result (self.new ≡ self.old) }
+    {
         let alloc = *self.peers.allocator();
         let rows = &mut self.rows;
         let dirty = &mut self.dirty;
@@ -239,6 +249,15 @@ impl<'a> Rib<'a> {
         ensures { ComesUp self.old self.new peer }
     {
         let place = self.peer_place(peer);
+        self.come_up_at(place, peer);
+    }
+
+    /// Does what [`Rib::come_up`] does, for the peer at a place among the router's peers, by rising number. It takes no
+    /// memory.
+    pub fn come_up_at(&mut self, place: usize, peer: Asn)
+        requires stands { slice_get (peers self.old.net self.old.router) place ≡ Some peer }
+        ensures { ComesUp self.old self.new peer }
+    {
         mark_words(self.rows.as_slice(), &mut self.dirty, place);
         set_up(&mut self.peers, place, true);
         self.waits[place] = unadvertised(self.rows.as_slice(), place);
@@ -251,6 +270,15 @@ impl<'a> Rib<'a> {
         ensures { ForgetsPeer self.old self.new peer }
     {
         let place = self.peer_place(peer);
+        self.forget_at(place, peer);
+    }
+
+    /// Does what [`Rib::forget`] does, for the peer at a place among the router's peers, by rising number. It takes no
+    /// memory.
+    pub fn forget_at(&mut self, place: usize, peer: Asn)
+        requires stands { slice_get (peers self.old.net self.old.router) place ≡ Some peer }
+        ensures { ForgetsPeer self.old self.new peer }
+    {
         let alloc = *self.peers.allocator();
         forget_all(alloc, &mut self.rows, &mut self.dirty, place);
         set_up(&mut self.peers, place, false);

@@ -58,9 +58,6 @@ linked_is net u v b h =
     (λ t. let found = h.0 t in list_any-from_Any (joins u v) net.links (found.0, found.1, found.2, found.3, joins_is found.1 u v found.4))
     (λ t. let found = Any-from_list_any (joins u v) net.links t in h.1 (found.0, found.1, found.2, found.3, is_joined found.1 u v found.4))
 
-pub linked_to : (net : Plan) (u v : ℕ) → linked net u v ≡ true → Linked net.links u v
-linked_to net u v t = let found = Any-from_list_any (joins u v) net.links t in (found.0, found.1, found.2, found.3, is_joined found.1 u v found.4)
-
 -- ---- the OPEN
 
 hold_is : (hold : ℕ) → (hold ≡ 0) ⊎ (3 ≤ hold) → is_hold_time hold ≡ true

@@ -1,11 +1,11 @@
 //! Carrying out drafts.
 
 ghost use Rattle.bgp_values.specs.declared.width.Width as widths;
-ghost use Rattle.std.specs.Prelude.{◌≡◌, true, false, ℕ, List, None};
+ghost use Rattle.std.specs.Prelude.{◌≡◌, true, false, ℕ, List, None, Some, slice_get};
 ghost use Rattle.bgp_framing.specs.Held.{is_waiting};
-ghost use Rattle.ranked_policy.specs.Plans.{Linked};
 ghost use Rattle.snap_marker.specs.Recordings.{closed};
 ghost use Rattle.snap_marker.specs.Parts.{snapshots_of, IsOver, AreOf};
+ghost use Rattle.router_model.specs.Settings.{peers};
 ghost use Rattle.router_model.specs.Sides.{carried, without_front, NoMessage};
 ghost use Rattle.router_model.specs.Step.{close_at};
 ghost use Rattle.router_side.specs.Sayings.{told_of, IsSayable, IsSayableWhere};
@@ -67,11 +67,12 @@ pub(super) fn carry(
     alloc: Global,
     end: &mut SideEnd,
     tables: &mut Rib<'_>,
+    at: usize,
     peer: Asn,
     own_open: &Message,
     made: &SideDraft,
 )
-    requires linked { Linked tables.old.net.links tables.old.router peer }
+    requires stands { slice_get (peers tables.old.net tables.old.router) at ≡ Some peer }
     requires own { (w : widths.Width) → IsSayable w own_open.now }
     requires room { HasRoom own_open.now None made.now end.old }
     ensures side { side end.new ≡ carried NoMessage (side end.old) (draft own_open.now NoMessage made.now) }
@@ -80,7 +81,7 @@ pub(super) fn carry(
     let was = standing(end);
     end.commit(alloc, own_open, made);
     let now = standing(end);
-    follow(tables, peer, was, now);
+    follow(tables, at, peer, was, now);
 }
 
 /// Carries out the draft of the message or fault in front, for which there is room. The tables follow the session. It
@@ -89,12 +90,13 @@ pub(super) fn carry_front(
     alloc: Global,
     end: &mut SideEnd,
     tables: &mut Rib<'_>,
+    at: usize,
     peer: Asn,
     own_open: &Message,
     given: Brought,
     made: &SideDraft,
 )
-    requires linked { Linked tables.old.net.links tables.old.router peer }
+    requires stands { slice_get (peers tables.old.net tables.old.router) at ≡ Some peer }
     requires own { (w : widths.Width) → IsSayable w own_open.now }
     requires told { IsSayableWhere (side end.old).width (told_of (hand given)) }
     requires waits { is_waiting (side end.old).held ≡ true }
@@ -107,7 +109,7 @@ pub(super) fn carry_front(
     let was = standing(end);
     end.commit_front(alloc, own_open, given, made);
     let now = standing(end);
-    follow(tables, peer, was, now);
+    follow(tables, at, peer, was, now);
 }
 
 /// Loses the unfinished recording, if a session leaves Established in an incarnation. It takes no memory.
@@ -154,7 +156,7 @@ impl Router<'_> {
         if end.reserve(&self.own_open, &nothing, made).is_err() {
             return Err(RouterError::Memory);
         }
-        carry(alloc, end, &mut self.tables, peer, &self.own_open, made);
+        carry(alloc, end, &mut self.tables, at, peer, &self.own_open, made);
         close(&mut self.marks, peer, made.left);
         self.stamp = stamp;
         Ok(Stepped::Did)

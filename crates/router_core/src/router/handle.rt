@@ -4,7 +4,6 @@ ghost use Rattle.bgp_values.specs.declared.width.Width as widths;
 ghost use Rattle.std.specs.Prelude.{◌≡◌, true, slice_get, IfOk, IfSome, OnOk, OnErr, ℕ, List, Option, Some};
 ghost use Rattle.bgp_codec.specs.declared.update.Update as update;
 ghost use Rattle.bgp_framing.specs.Held.{is_waiting};
-ghost use Rattle.ranked_policy.specs.Plans.{Linked};
 ghost use Rattle.snap_marker.specs.Recordings.{closed};
 ghost use Rattle.snap_marker.specs.Parts.{snapshots_of, is_heard, HasRoom, IsLink, IsOver, AreOf};
 ghost use Rattle.router_model.specs.Settings.{peers};
@@ -58,8 +57,14 @@ fn copy_for(
 }
 
 // Lets the tables take the UPDATE that is acted on.
-fn hear(tables: &mut Rib<'_>, peer: Asn, acts: bool, given: &Brought) -> Result<(), AllocError>
-    requires { Linked tables.old.net.links tables.old.router peer }
+fn hear(
+    tables: &mut Rib<'_>,
+    at: usize,
+    peer: Asn,
+    acts: bool,
+    given: &Brought,
+) -> Result<(), AllocError>
+    requires { slice_get (peers tables.old.net tables.old.router) at ≡ Some peer }
     ensures ok { OnOk result (Hears tables.old tables.new peer (update_acted acts (hand given.now))) }
     ensures err { OnErr result (tables.new ≡ tables.old) }
 {
@@ -67,7 +72,7 @@ fn hear(tables: &mut Rib<'_>, peer: Asn, acts: bool, given: &Brought) -> Result<
         return Ok(());
     }
     match given {
-        Brought::Update(update) => match tables.hear(peer, update) {
+        Brought::Update(update) => match tables.hear_at(at, peer, update) {
             Ok(()) => Ok(()),
             Err(_) => Err(AllocError),
         },
@@ -103,7 +108,6 @@ fn handle_front(
     peer: Asn,
 ) -> Result<(), AllocError>
     requires stands { slice_get (peers tables.old.net tables.old.router) at ≡ Some peer }
-    requires linked { Linked tables.old.net.links tables.old.router peer }
     requires own { (w : widths.Width) → IsSayable w own_open.now }
     requires rule { (own : ℕ) × (rule.now ≡ naming (side end.old).width own peer) }
     requires waits { is_waiting (side end.old).held ≡ true }
@@ -130,7 +134,7 @@ fn handle_front(
             return Ok(());
         }
     }
-    handle_by_draft(alloc, rule, end, tables, marks, own_open, peer)
+    handle_by_draft(alloc, rule, end, tables, marks, own_open, at, peer)
 }
 
 // Handles any message or fault: it is read, and its draft is made, given room, and carried out. A draft is large, and a
@@ -143,9 +147,10 @@ fn handle_by_draft(
     tables: &mut Rib<'_>,
     marks: &mut MarkState,
     own_open: &Message,
+    at: usize,
     peer: Asn,
 ) -> Result<(), AllocError>
-    requires linked { Linked tables.old.net.links tables.old.router peer }
+    requires stands { slice_get (peers tables.old.net tables.old.router) at ≡ Some peer }
     requires own { (w : widths.Width) → IsSayable w own_open.now }
     requires rule { (own : ℕ) × (rule.now ≡ naming (side end.old).width own peer) }
     requires waits { is_waiting (side end.old).held ≡ true }
@@ -164,9 +169,9 @@ fn handle_by_draft(
     let made = end.draft_message(own_open, &given, event);
     end.reserve(own_open, &given, &made)?;
     let copy = copy_for(alloc, marks, peer, made.acts, &given)?;
-    hear(tables, peer, made.acts, &given)?;
+    hear(tables, at, peer, made.acts, &given)?;
     record(marks, peer, made.left, copy);
-    carry_front(alloc, end, tables, peer, own_open, given, &made);
+    carry_front(alloc, end, tables, at, peer, own_open, given, &made);
     Ok(())
 }
 

@@ -89,7 +89,7 @@ impl Router<'_> {
         let alloc = *self.peers.allocator();
         let peer = self.peers[at].number;
         let end = &mut self.peers[at].end;
-        carry(alloc, end, &mut self.tables, peer, &self.own_open, made);
+        carry(alloc, end, &mut self.tables, at, peer, &self.own_open, made);
         close(&mut self.marks, peer, made.left);
     }
 

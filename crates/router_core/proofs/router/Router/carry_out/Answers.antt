@@ -1,5 +1,5 @@
 use Rattle.std.proofs.Common.{◌≡◌, ◌∙◌, ◌≤◌, ap, sym, refl, subst, false, arith}
-use Rattle.std.specs.Prelude.{nat_lt, Ok, Err}
+use Rattle.std.specs.Prelude.{nat_lt, Some, Ok, Err}
 use Rattle.std.proofs.lemmas.Bool.Decides.{nat_tests}
 use Rattle.std.proofs.lemmas.Result.{err_from_is_err_and}
 use Rattle.router_model.specs.declared.refusal.RouterError.TheVariants.{Memory}
@@ -14,7 +14,7 @@ use Rattle.router_side.specs.SideOf.{side}
 use Rattle.router_core.specs.declared.peers.Peer.{Peer}
 use Rattle.router_core.specs.Views.{view_of, RouterView, IsFound, Carries, sides_of, plain_of}
 use Rattle.router_core.specs.Following.{Followed, standing}
-use Rattle.router_core.proofs.Beginnings.{linked_to}
+use Rattle.router_core.proofs.Places.{told_here, found_stands}
 use Rattle.router_core.proofs.Carrying.{Changes, with_peer, stays, kept, moves, tracks_alike, tracks_moved, records_same, nothing_seen, ends_did, ends_memory}
 use Rattle.router_core.proofs.Following.{leaves}
 use Rattle.router_core.proofs.router.Router.carry_out.Goals as goal
@@ -59,13 +59,11 @@ returns-then-is_err-clause-carries c =
     (plain_of (with_peer r c.args.at q r.tables r.marks r.stamp)) early c.if-overflows.false (kept r v c.args.at p q ch r.marks c.reserve.ensures.side refl))
 
 -- it is carried out
-pub carry-requires-clause-linked : goal.carry-requires-clause-linked
-carry-requires-clause-linked c =
+pub carry-requires-clause-stands : goal.carry-requires-clause-stands
+carry-requires-clause-stands c =
     let r = view_of c.self.inside in
-    let v = c.args.peer in
-    let place = subst (λ (x : RouterView). IsFound x.peers v c.args.at) (sym c.self.view_is) c.requires.place in
-    let t = c.self.invariant.tabled in
-    rw (t.net, t.router) (linked_to r.net r.number v (sym (c.self.invariant.links v) ∙ place.1))
+    let place = subst (λ (x : RouterView). IsFound x.peers c.args.peer c.args.at) (sym c.self.view_is) c.requires.place in
+    told_here r c.args.peer c.args.at c.self.invariant (found_stands r c.args.peer (Some c.args.at) c.self.invariant place)
 
 pub invariant_of-self-2 : goal.invariant_of-self-2
 invariant_of-self-2 c =

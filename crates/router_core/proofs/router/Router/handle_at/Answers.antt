@@ -17,7 +17,6 @@ use Rattle.router_core.specs.Calling.{no_step}
 use Rattle.router_core.proofs.PeerLemmas.{here_same}
 use Rattle.router_core.proofs.Carrying.{Changes, Tracks, with_peer, of_sound, stays, kept, is_fresh, has_width, tracks_alike}
 use Rattle.router_core.proofs.Handling.{link_of, seen_is, tracks_handled, leaves_handled}
-use Rattle.router_core.proofs.Beginnings.{linked_to}
 use Rattle.rib_tables.specs.Owners.{RibView}
 use Rattle.snap_marker.specs.Parts.{snapshots_of}
 use Rattle.snap_marker.specs.Recordings.{closed}
@@ -51,15 +50,7 @@ handle_front-requires-clause-stands c =
     let r = view_of c.self.inside in
     told_here r c.args.peer c.args.at c.self.invariant (subst (λ (x : RouterView). slice_get (peers x.net x.number) c.args.at ≡ Some c.args.peer) (sym c.self.view_is) c.requires.stands)
 
--- the peer is linked, and what is recorded has its link
-pub handle_front-requires-clause-linked : goal.handle_front-requires-clause-linked
-handle_front-requires-clause-linked c =
-    let r = view_of c.self.inside in
-    let v = c.args.peer in
-    let found = subst (λ (x : RouterView). IsFound x.peers c.args.peer c.args.at) (sym c.self.view_is) c.peer_stands_at.ensures.found in
-    let t = c.self.invariant.tabled in
-    rw (t.net, t.router) (linked_to r.net r.number v (sym (c.self.invariant.links v) ∙ found.1))
-
+-- what is recorded has its link
 pub handle_front-requires-clause-link : goal.handle_front-requires-clause-link
 handle_front-requires-clause-link c =
     let r = view_of c.self.inside in

@@ -9,24 +9,18 @@ use Rattle.router_core.specs.declared.peers.Peer.{Peer}
 use Rattle.router_core.specs.Views.{view_of, RouterView, IsAt}
 use Rattle.router_core.specs.Following.{standing}
 use Rattle.router_core.specs.ToAll.{draft_by, IsReady, MovesSide}
-use Rattle.router_core.proofs.Beginnings.{linked_to}
-use Rattle.router_core.proofs.PeerLemmas.{is_listed}
+use Rattle.router_core.proofs.Places.{listed_here}
 use Rattle.router_core.proofs.Following.{leaves}
 use Rattle.router_core.proofs.Carrying.{Changes, with_peer, stays, tracks_moved, keeps_here}
 use Rattle.router_core.proofs.Recording.{rises}
 use Rattle.router_core.proofs.Moving.{at_here, get_same, event_keeps}
 use Rattle.router_core.proofs.router.Router.move_side.Goals as goal
 
-pub carry-requires-clause-linked : goal.carry-requires-clause-linked
-carry-requires-clause-linked c =
+pub carry-requires-clause-stands : goal.carry-requires-clause-stands
+carry-requires-clause-stands c =
     let r = view_of c.self.inside in
-    let at = c.args.at in
-    let below = subst (λ (x : RouterView). at < length x.peers) (sym c.self.view_is) c.requires.below in
-    let i = c.index.result.now in
-    let v = i.number in
-    let place = subst (λ (w : Peer). IsAt r.peers w.number at) (sym c.index.ensures) (at_here r.peers at i (rises r.net c.self.invariant.network r.number r.peers c.self.invariant.numbers) below) in
-    let t = c.self.invariant.tabled in
-    rw (t.net, t.router) (linked_to r.net r.number v (sym (c.self.invariant.links v) ∙ is_listed r.peers v at place))
+    let below = subst (λ (x : RouterView). c.args.at < length x.peers) (sym c.self.view_is) c.requires.below in
+    listed_here r c.args.at c.index.result.now c.self.invariant below c.index.ensures
 
 pub invariant_of-self : goal.invariant_of-self
 invariant_of-self c =
