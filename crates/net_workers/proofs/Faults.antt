@@ -61,10 +61,10 @@ is_inside ends fault.Memory h is = cc
 is_inside ends (fault.WorkerRefused u) h is = cc
 is_inside ends fault.BoardDiffers h is = cc
 
--- what the gates of workers were told, in their record too
-pub worked_told : {G T : Type 0} → (told : G → T) (ends : List (Finished G)) → map (λ (w : Worked G). told w.gate) (map worked_of ends) ≡ map (λ (e : Finished G). told e.worker.gate) ends
-worked_told told [] = refl
-worked_told told (e ∷ es) = ap (λ ts. told e.worker.gate ∷ ts) (worked_told told es)
+-- the scripts of workers are the same in their record
+pub worked_script : {G T : Type 0} → (script : G → T) (ends : List (Finished G)) → map (λ (w : Worked G). script w.gate) (map worked_of ends) ≡ map (λ (e : Finished G). script e.worker.gate) ends
+worked_script script [] = refl
+worked_script script (e ∷ es) = ap (λ ts. script e.worker.gate ∷ ts) (worked_script script es)
 
 module _ {G : Type 0} (given : G → List Chore) (plan : Plan) (turns : ℕ) where
   abbrev Later : List (Finished G) → List (Finished G) → Type 0
@@ -103,13 +103,13 @@ module _ {G : Type 0} (given : G → List Chore) (plan : Plan) (turns : ℕ) whe
     ran = record { network = network; before = before; routers = routers; fresh = fresh; dealt = dealt; many = many; ran = ran };
   }
 
-  pub fault_is : {T : Type 0} → (told : G → T) (tellings : List T) (ends : List (Finished G)) (why : RunFault) → HaveEnded given plan turns ends
-      → map (λ e. told e.worker.gate) ends ≡ tellings → IsFaultOf ends why → FaultOf given told plan turns tellings why
-  fault_is told tellings ends fault.Memory h same is = tt
-  fault_is told tellings ends fault.BadLimits h same is = tt
-  fault_is told tellings ends (fault.WorkerRefused u) h same (inl first) = (ends, h, same, first)
-  fault_is told tellings ends (fault.WorkerRefused u) h same (inr (quiet, inl wants)) = absurd cc
-  fault_is told tellings ends (fault.WorkerRefused u) h same (inr (quiet, inr differs)) = absurd cc
-  fault_is told tellings ends fault.BoardDiffers h same (inl first) = absurd (never_differs ends first)
-  fault_is told tellings ends fault.BoardDiffers h same (inr (quiet, inl wants)) = absurd cc
-  fault_is told tellings ends fault.BoardDiffers h same (inr (quiet, inr differs)) = (ends, h, same, quiet)
+  pub fault_is : {T : Type 0} → (script : G → T) (scripts : List T) (ends : List (Finished G)) (why : RunFault) → HaveEnded given plan turns ends
+      → map (λ e. script e.worker.gate) ends ≡ scripts → IsFaultOf ends why → FaultOf given script plan turns scripts why
+  fault_is script scripts ends fault.Memory h same is = tt
+  fault_is script scripts ends fault.BadLimits h same is = tt
+  fault_is script scripts ends (fault.WorkerRefused u) h same (inl first) = (ends, h, same, first)
+  fault_is script scripts ends (fault.WorkerRefused u) h same (inr (quiet, inl wants)) = absurd cc
+  fault_is script scripts ends (fault.WorkerRefused u) h same (inr (quiet, inr differs)) = absurd cc
+  fault_is script scripts ends fault.BoardDiffers h same (inl first) = absurd (never_differs ends first)
+  fault_is script scripts ends fault.BoardDiffers h same (inr (quiet, inl wants)) = absurd cc
+  fault_is script scripts ends fault.BoardDiffers h same (inr (quiet, inr differs)) = (ends, h, same, quiet)

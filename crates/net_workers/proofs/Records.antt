@@ -222,23 +222,23 @@ only plan (o ∷ os) u absent all =
 
 -- ---- the gates
 
-module _ {G T : Type 0} (told : G → T) where
-  same_told : (before after : List (Finished G)) → length after ≡ length before
-      → ((i : ℕ) (d : Finished G) → i < length before → told (slice_index_or after i d).worker.gate ≡ told (slice_index_or before i d).worker.gate)
-      → map (λ (e : Finished G). told e.worker.gate) after ≡ map told (map (λ (e : Finished G). e.worker.gate) before)
-  same_told [] [] many kept = refl
-  same_told [] (a ∷ ends) many kept = absurd (omega (arith, many))
-  same_told (b ∷ bs) [] many kept = absurd (omega (arith, many))
-  same_told (b ∷ bs) (a ∷ ends) many kept =
-      let here : told a.worker.gate ≡ told b.worker.gate = kept 0 a (omega arith) in
-      let rest = same_told bs ends (omega (arith, many)) (λ i d below. kept (suc i) d (omega (arith, below))) in
+module _ {G T : Type 0} (script : G → T) where
+  same_script : (before after : List (Finished G)) → length after ≡ length before
+      → ((i : ℕ) (d : Finished G) → i < length before → script (slice_index_or after i d).worker.gate ≡ script (slice_index_or before i d).worker.gate)
+      → map (λ (e : Finished G). script e.worker.gate) after ≡ map script (map (λ (e : Finished G). e.worker.gate) before)
+  same_script [] [] many kept = refl
+  same_script [] (a ∷ ends) many kept = absurd (omega (arith, many))
+  same_script (b ∷ bs) [] many kept = absurd (omega (arith, many))
+  same_script (b ∷ bs) (a ∷ ends) many kept =
+      let here : script a.worker.gate ≡ script b.worker.gate = kept 0 a (omega arith) in
+      let rest = same_script bs ends (omega (arith, many)) (λ i d below. kept (suc i) d (omega (arith, below))) in
       λ i. here i ∷ rest i
 
   -- router by router those that were given
   pub gates_are : (before after : List (Finished G)) (gates : List G) → length after ≡ length before
-      → ((i : ℕ) (d : Finished G) → i < length before → told (slice_index_or after i d).worker.gate ≡ told (slice_index_or before i d).worker.gate)
-      → map (λ (e : Finished G). e.worker.gate) before ≡ gates → map (λ (e : Finished G). told e.worker.gate) after ≡ map told gates
-  gates_are before after gates many kept given = same_told before after many kept ∙ ap (map told) given
+      → ((i : ℕ) (d : Finished G) → i < length before → script (slice_index_or after i d).worker.gate ≡ script (slice_index_or before i d).worker.gate)
+      → map (λ (e : Finished G). e.worker.gate) before ≡ gates → map (λ (e : Finished G). script e.worker.gate) after ≡ map script gates
+  gates_are before after gates many kept given = same_script before after many kept ∙ ap (map script) given
 
 -- ---- the record
 

@@ -36,16 +36,16 @@ pub record HaveEnded {G : Type 0} (given : G → List Chore) (plan : Plan) (turn
 abbrev pub IsFaultOf : {G : Type 0} → List (Finished G) → RunFault → Type 0
 IsFaultOf ends why = (first_fault ends ≡ Some why) ⊎ ((first_fault ends ≡ None) × ((why ≡ fault.Memory) ⊎ (why ≡ fault.BoardDiffers)))
 
--- workers of the network whose gates were told this have ended, and this is their first fault
+-- workers of the network whose gates have these scripts have ended, and this is their first fault
 abbrev pub EndedSo : {G T : Type 0} → (G → List Chore) → (G → T) → Plan → ℕ → List T → Option RunFault → Type 0
-EndedSo {G} given told plan turns tellings first =
-    (ends : List (Finished G)) × HaveEnded given plan turns ends × (map (λ e. told e.worker.gate) ends ≡ tellings)
+EndedSo {G} given script plan turns scripts first =
+    (ends : List (Finished G)) × HaveEnded given plan turns ends × (map (λ e. script e.worker.gate) ends ≡ scripts)
     × (first_fault ends ≡ first)
 
 -- why there is no record: the worker of the least router that has a fault was refused; or none has a fault, and the
 -- board differs. A want of memory may be a worker's, or that of the work around them
 abbrev pub FaultOf : {G T : Type 0} → (G → List Chore) → (G → T) → Plan → ℕ → List T → RunFault → Type 0
-FaultOf given told plan turns tellings fault.Memory = Unit {0}
-FaultOf given told plan turns tellings fault.BadLimits = Unit {0}
-FaultOf given told plan turns tellings (fault.WorkerRefused u) = EndedSo given told plan turns tellings (Some (fault.WorkerRefused u))
-FaultOf given told plan turns tellings fault.BoardDiffers = EndedSo given told plan turns tellings None
+FaultOf given script plan turns scripts fault.Memory = Unit {0}
+FaultOf given script plan turns scripts fault.BadLimits = Unit {0}
+FaultOf given script plan turns scripts (fault.WorkerRefused u) = EndedSo given script plan turns scripts (Some (fault.WorkerRefused u))
+FaultOf given script plan turns scripts fault.BoardDiffers = EndedSo given script plan turns scripts None

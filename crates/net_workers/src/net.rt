@@ -131,7 +131,7 @@ where
     requires fresh { AllByRecursion (λ gate. G.given gate ≡ []) gates.items }
     requires many { length gates.items ≡ length network.now.routers }
     ensures ended { IfOk result (λ workers. HaveEnded G.given network.now turns workers.items) }
-    ensures told { IfOk result (λ workers. map (λ e. G.told e.worker.gate) workers.items ≡ map G.told gates.items) }
+    ensures script { IfOk result (λ workers. map (λ e. G.script e.worker.gate) workers.items ≡ map G.script gates.items) }
 {
     let mut workers = new_workers(alloc, network, gates)?;
     run_all(rt, board, turns, &mut workers);
@@ -201,8 +201,8 @@ where
     requires fresh { AllByRecursion (λ gate. G.given gate ≡ []) gates.items }
     requires limits { AreLimits network.now turns (length gates.items) }
     ensures other { IfErr result (λ why. why ≢ RunFault.BadLimits) }
-    ensures fault { IfErr result (FaultOf G.given G.told network.now turns (map G.told gates.items)) }
-    ensures told { IfOk result (λ r. map (λ w. G.told w.gate) r.workers.items ≡ map G.told gates.items) }
+    ensures fault { IfErr result (FaultOf G.given G.script network.now turns (map G.script gates.items)) }
+    ensures script { IfOk result (λ r. map (λ w. G.script w.gate) r.workers.items ≡ map G.script gates.items) }
     ensures ways { IfOk result (λ r. AreWays network.now r.ways.items) }
     ensures recorded { IfOk result
         (λ r. AreRecord G.given network.now turns (passed_in r.ways.items) r.workers.items r.collector) }
@@ -220,7 +220,7 @@ where
 /// A worker ends at its first Stop, or after so many chores. Refused with [`RunFault::BadLimits`] exactly if the chores
 /// are not 1 to [`MOST_TURNS`] or there is not one gate for each router. Refused with [`RunFault::WorkerRefused`] only
 /// for the least router that has a fault, if that was a refusal. Refused with [`RunFault::BoardDiffers`] only if no
-/// worker has a fault; the clause says this of some workers that were told so. [`RunFault::Memory`] is a
+/// worker has a fault; the clause says this of some workers with these scripts. [`RunFault::Memory`] is a
 /// worker's want of memory, or that of the work around them: no clause says when. After a fault the other workers go on
 /// to their own end, and nothing is handed back.
 ///
@@ -241,11 +241,11 @@ where
     ensures limits { OnOk result (AreLimits network.now limits.turns (length gates.items)) }
     ensures refused { IfErr result
         (λ why. why ≡ RunFault.BadLimits ↔ (AreLimits network.now limits.turns (length gates.items) → ⊥)) }
-    // Of some workers that were told the same: the fault is that of the least router that has one; it ended for it, and
+    // Of some workers with these scripts: the fault is that of the least router that has one; it ended for it, and
     // those before it did their chores.
-    ensures fault { IfErr result (FaultOf G.given G.told network.now limits.turns (map G.told gates.items)) }
-    // Router by router, the gate that comes back was told what the given one was told.
-    ensures told { IfOk result (λ r. map (λ w. G.told w.gate) r.workers.items ≡ map G.told gates.items) }
+    ensures fault { IfErr result (FaultOf G.given G.script network.now limits.turns (map G.script gates.items)) }
+    // Router by router, the gate that comes back has the script of the given one.
+    ensures script { IfOk result (λ r. map (λ w. G.script w.gate) r.workers.items ≡ map G.script gates.items) }
     ensures ways { IfOk result (λ r. AreWays network.now r.ways.items) }
     ensures recorded { IfOk result
         (λ r. AreRecord G.given network.now limits.turns (passed_in r.ways.items) r.workers.items r.collector) }
@@ -276,11 +276,11 @@ where
     ensures limits { OnOk result (AreLimits network.now limits.turns (length gates.items)) }
     ensures refused { IfErr result
         (λ why. why ≡ RunFault.BadLimits ↔ (AreLimits network.now limits.turns (length gates.items) → ⊥)) }
-    // Of some workers that were told the same: the fault is that of the least router that has one; it ended for it, and
+    // Of some workers with these scripts: the fault is that of the least router that has one; it ended for it, and
     // those before it did their chores.
-    ensures fault { IfErr result (FaultOf G.given G.told network.now limits.turns (map G.told gates.items)) }
-    // Router by router, the gate that comes back was told what the given one was told.
-    ensures told { IfOk result (λ r. map (λ w. G.told w.gate) r.workers.items ≡ map G.told gates.items) }
+    ensures fault { IfErr result (FaultOf G.given G.script network.now limits.turns (map G.script gates.items)) }
+    // Router by router, the gate that comes back has the script of the given one.
+    ensures script { IfOk result (λ r. map (λ w. G.script w.gate) r.workers.items ≡ map G.script gates.items) }
     ensures ways { IfOk result (λ r. AreWays network.now r.ways.items) }
     ensures recorded { IfOk result
         (λ r. IsRecord G.given network.now limits.turns (passed_in r.ways.items) r.workers.items r.collector

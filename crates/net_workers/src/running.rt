@@ -93,7 +93,7 @@ fn run_one<R: Wait, G: Gate>(rt: &R, board: &Board, turns: u32, ended: &mut Fini
     requires gate { G.given ended.old.worker.gate ≡ [] }
     requires chores { ended.old.worker.journal.chores.items ≡ [] }
     ensures ran { IfNone ended.new.fault (Ran G.given turns ended.old.worker ended.new.worker) }
-    ensures told { G.told ended.new.worker.gate ≡ G.told ended.old.worker.gate }
+    ensures script { G.script ended.new.worker.gate ≡ G.script ended.old.worker.gate }
     ensures same { IsLaterWorker wires_of ended.old.worker ended.new.worker }
     ensures ended { IfSome ended.new.fault (Ceased G.given turns ended.new.worker) }
 {
@@ -117,9 +117,9 @@ where
     ensures many { length workers.new.items ≡ length workers.old.items }
     ensures ran { (i : ℕ) (d : _) → i < length workers.old.items → IfNone (slice_index_or workers.new.items i d).fault
         (Ran G.given turns (slice_index_or workers.old.items i d).worker (slice_index_or workers.new.items i d).worker) }
-    ensures told { (i : ℕ) (d : _) → i < length workers.old.items
-        → G.told (slice_index_or workers.new.items i d).worker.gate
-        ≡ G.told (slice_index_or workers.old.items i d).worker.gate }
+    ensures script { (i : ℕ) (d : _) → i < length workers.old.items
+        → G.script (slice_index_or workers.new.items i d).worker.gate
+        ≡ G.script (slice_index_or workers.old.items i d).worker.gate }
     ensures same { (i : ℕ) (d : _) → i < length workers.old.items
         → IsLaterWorker wires_of (slice_index_or workers.old.items i d).worker
         (slice_index_or workers.new.items i d).worker }

@@ -16,7 +16,7 @@ use Rattle.net_workers.specs.Ran.{Passed, HasWorked}
 use Rattle.net_workers.specs.Runs.{chores_of}
 use Rattle.thread_runs.specs.declared.chores.RunOptions.{RunOptions}
 use Rattle.thread_runs.specs.declared.gates.RunGate.{RunGate}
-use Rattle.thread_runs.specs.Gates.{Told, HasRoom, opening, originated, first_router, numbered_or_turn, later_chore, chore_at, first_chores, told_of, given_by, told_each}
+use Rattle.thread_runs.specs.Gates.{Script, HasRoom, opening, originated, first_router, numbered_or_turn, later_chore, chore_at, first_chores, script_of, given_by, scripts_for}
 
 -- a snapshot that it takes has at most this number
 abbrev IsLow : ℕ → Chore → Type 0
@@ -75,31 +75,31 @@ opening_low most net u =
 weaker : (few most : ℕ) (c : Chore) → few ≤ most → IsLow few c → IsLow most c
 weaker few most c le h s is = (let k = h s is in omega (arith, k, le))
 
--- what a router is told
-abbrev IsLowTold : ℕ → Told → Type 0
-IsLowTold most told = (i : ℕ) → IsLow most (chore_at told i)
+-- what a router is script
+abbrev IsLowScript : ℕ → Script → Type 0
+IsLowScript most script = (i : ℕ) → IsLow most (chore_at script i)
 
-told_low : (most : ℕ) (net : Plan) (spacing snapshots : ℕ) → snapshots ≤ most → (rs : List NetRouter) → AllByRecursion (IsLowTold most) (told_each net spacing snapshots rs)
-told_low most net spacing snapshots le [] = tt
-told_low most net spacing snapshots le (r ∷ rs) = (
+scripts_low : (most : ℕ) (net : Plan) (spacing snapshots : ℕ) → snapshots ≤ most → (rs : List NetRouter) → AllByRecursion (IsLowScript most) (scripts_for net spacing snapshots rs)
+scripts_low most net spacing snapshots le [] = tt
+scripts_low most net spacing snapshots le (r ∷ rs) = (
   λ i. at_place most (opening net r.asn) i (later_chore spacing snapshots (i - length (opening net r.asn))) (opening_low most net r.asn)
       (weaker snapshots most (later_chore spacing snapshots (i - length (opening net r.asn))) le (later_low spacing snapshots (i - length (opening net r.asn)))),
-  told_low most net spacing 0 (omega arith) rs,
+  scripts_low most net spacing 0 (omega arith) rs,
 )
 
-first_low : (most : ℕ) (told : Told) → IsLowTold most told → (n : ℕ) → AllByRecursion (IsLow most) (first_chores (chore_at told) n)
-first_low most told h zero = tt
-first_low most told h (suc n) = all_both (IsLow most) (first_chores (chore_at told) n) (chore_at told n ∷ []) (first_low most told h n) (h n, tt)
+first_low : (most : ℕ) (script : Script) → IsLowScript most script → (n : ℕ) → AllByRecursion (IsLow most) (first_chores (chore_at script) n)
+first_low most script h zero = tt
+first_low most script h (suc n) = all_both (IsLow most) (first_chores (chore_at script) n) (chore_at script n ∷ []) (first_low most script h n) (h n, tt)
 
 -- ---- those of all routers
 
 chores_low : (most : ℕ) (net : Plan) (turns : ℕ) (p : Passed) (ws : List (Worked RunGate)) → AllByRecursion (HasWorked given_by net turns p) ws
-    → AllByRecursion (λ w. IsLowTold most (told_of w.gate)) ws → (u : ℕ) → AllByRecursion (IsLow most) (chores_of ws u)
+    → AllByRecursion (λ w. IsLowScript most (script_of w.gate)) ws → (u : ℕ) → AllByRecursion (IsLow most) (chores_of ws u)
 chores_low most net turns p [] worked low u = tt
 chores_low most net turns p (w ∷ ws) worked low u = at (w.router.number == u) (chores_low most net turns p ws worked.1 low.1 u)
   where
     at : (b : Bool) → AllByRecursion (IsLow most) (chores_of ws u) → AllByRecursion (IsLow most) (cond b w.journal.chores.items (chores_of ws u))
-    at true rest = subst (AllByRecursion (IsLow most)) (sym worked.0.chores) (first_low most (told_of w.gate) low.0 w.gate.count)
+    at true rest = subst (AllByRecursion (IsLow most)) (sym worked.0.chores) (first_low most (script_of w.gate) low.0 w.gate.count)
     at false rest = rest
 
 -- the options leave room for so few snapshots alone
@@ -113,7 +113,7 @@ few_snapshots net options room =
 
 -- each snapshot that a router was told to take
 pub numbers_low : (most : ℕ) (net : Plan) (turns spacing snapshots : ℕ) (p : Passed) (ws : List (Worked RunGate)) → snapshots ≤ most → AllByRecursion (HasWorked given_by net turns p) ws
-    → map (λ w. told_of w.gate) ws ≡ told_each net spacing snapshots net.routers → (u s : ℕ) → Contains (chores_of ws u) (Command (Snapshot s)) → s ≤ most
-numbers_low most net turns spacing snapshots p ws le worked told u s c =
-    let low = all_unmap (IsLowTold most) (λ (w : Worked RunGate). told_of w.gate) ws (subst (AllByRecursion (IsLowTold most)) (sym told) (told_low most net spacing snapshots le net.routers)) in
+    → map (λ w. script_of w.gate) ws ≡ scripts_for net spacing snapshots net.routers → (u s : ℕ) → Contains (chores_of ws u) (Command (Snapshot s)) → s ≤ most
+numbers_low most net turns spacing snapshots p ws le worked script u s c =
+    let low = all_unmap (IsLowScript most) (λ (w : Worked RunGate). script_of w.gate) ws (subst (AllByRecursion (IsLowScript most)) (sym script) (scripts_low most net spacing snapshots le net.routers)) in
     all_in (IsLow most) (chores_of ws u) (Command (Snapshot s)) c.0 (chores_low most net turns p ws worked low u) c.1 c.2 s refl

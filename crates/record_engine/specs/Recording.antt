@@ -61,8 +61,8 @@ record_output lines events ending = output (limited (record_text lines events ++
 
 -- ---- the text printed of a run
 
--- the text of what some threads did and ended in. There is a record of them, in which each router was told what `run`
--- tells it, and which is one of a run of the network that keeps the promises of runs
+-- the text of what some threads did and ended in. There is a record of them, in which each router has the script that
+-- `run` gives it, and which is one of a run of the network that keeps the promises of runs
 pub record PrintsRecord (options : RunOptions) (lines : List Text) (net : Plan) (out : Output) : Type 0 where
   pub threads : RunRecord options net
   pub are_decided : AreDecided threads.collector threads.collector.decided

@@ -37,8 +37,8 @@ use Rattle.text_engines.specs.Decoding.{Output, output}
 use Rattle.text_engines.specs.Checking.{at_prefix}
 use Rattle.schedule_text.specs.Routes.{recorded, part_text, parts_text, router_text}
 use Rattle.run_engine.specs.Running.{HasSetting, Meets, IsPassedOver, SettlesOn, SettlesOnNone, PrintsRoutes, PrintsUnsettled, PrintsStableRoutes, SnapshotsGive, is_settled, decided_by, says, all_originate, meets, is_wanted, IsFirstWanted, CollectorGives, ThreadsGive, RunGives}
-use Rattle.thread_runs.specs.Records.{ThreadsRecord, IsRefusedInside, IsFaultOfRun, run_tellings, faulty}
-use Rattle.thread_runs.specs.Gates.{HasRoom, Told, given_by, told_of}
+use Rattle.thread_runs.specs.Records.{ThreadsRecord, IsRefusedInside, IsFaultOfRun, run_scripts, faulty}
+use Rattle.thread_runs.specs.Gates.{HasRoom, Script, given_by, script_of}
 use Rattle.schedule_text.proofs.SettledLemmas.{AreOffersOf, parts_in, the_part, printed_is, have_made}
 
 -- ---- the text of parts that were recorded
@@ -169,8 +169,8 @@ module _ (one : One) (g : Setting) (state : RunState) (c : CollectorView) (are :
 
 -- ---- what is printed
 
-module _ (one : One) (routers : MembersAreTheRouters) {G T : Type 0} {given : G → List Chore} {told : G → T} {turns : ℕ} {tellings : List T} (demand : Demand) (net : Plan) (is : IsNetwork net)
-    (r : ThreadsRecord given told net turns tellings) where
+module _ (one : One) (routers : MembersAreTheRouters) {G T : Type 0} {given : G → List Chore} {script : G → T} {turns : ℕ} {scripts : List T} (demand : Demand) (net : Plan) (is : IsNetwork net)
+    (r : ThreadsRecord given script net turns scripts) where
   abbrev c : CollectorView
   c = r.collector
 
@@ -223,15 +223,15 @@ module _ (one : One) (routers : MembersAreTheRouters) {G T : Type 0} {given : G 
         printed = printed ∙ ap (λ (t : List ℕ). output t DONE) (routes_are net.origins offers net.routers (all_recorded net s (made_for c) (map member_of c.members) members_are settled));
       }
 
-  pub snapshots_give : (last : ℕ) (out : Output) → CollectorGives demand net c last out → SnapshotsGive given told demand net turns tellings last out
+  pub snapshots_give : (last : ℕ) (out : Output) → CollectorGives demand net c last out → SnapshotsGive given script demand net turns scripts last out
   snapshots_give last out (inl found) = (r, inl (prints_routes last found.0 out found.1 found.2))
   snapshots_give last out (inr none) = (r, inr (record { unsettled = λ g e set. settles_on_none g e set last none.0; printed = none.1 }))
 
 -- ---- the routes where every origin originates
 
-pub stable_routes : {G T : Type 0} {given : G → List Chore} {told : G → T} (net : Plan) (set : HasSetting net) (turns : ℕ) (tellings : List T)
-    (r : ThreadsRecord given told net turns tellings) (last : ℕ) (out : Output) → PrintsRoutes r EveryOrigin last out → PrintsStableRoutes r last out
-stable_routes net set turns tellings r last out routes =
+pub stable_routes : {G T : Type 0} {given : G → List Chore} {script : G → T} (net : Plan) (set : HasSetting net) (turns : ℕ) (scripts : List T)
+    (r : ThreadsRecord given script net turns scripts) (last : ℕ) (out : Output) → PrintsRoutes r EveryOrigin last out → PrintsStableRoutes r last out
+stable_routes net set turns scripts r last out routes =
     let g = set.0 in
     let e : g.net ≡ net = set.1 in
     record {
@@ -265,12 +265,12 @@ are_limits_or net turns gates =
       ]
     ]
 
-module _ {G T : Type 0} (given : G → List Chore) (told : G → T) (net : Plan) (turns : ℕ) (gates : List G) (last : ℕ) (out : Output) where
-  inside : (why : RunFault) → (why ≡ fault.BadLimits → ⊥) → (why ≡ fault.BadLimits ↔ (AreLimits net turns (length gates) → ⊥)) → IsRefusedInside given told net turns (map told gates) out → ThreadsGive given told net turns gates last out
+module _ {G T : Type 0} (given : G → List Chore) (script : G → T) (net : Plan) (turns : ℕ) (gates : List G) (last : ℕ) (out : Output) where
+  inside : (why : RunFault) → (why ≡ fault.BadLimits → ⊥) → (why ≡ fault.BadLimits ↔ (AreLimits net turns (length gates) → ⊥)) → IsRefusedInside given script net turns (map script gates) out → ThreadsGive given script net turns gates last out
   inside why other exact is = elim (are_limits_or net turns (length gates)) [ inl good ↦ inr (good, inl is) | inr bad ↦ absurd (other (exact.1 bad)) ]
 
-  pub fault_gives : (why : RunFault) → why ≢ fault.Memory → (why ≡ fault.BadLimits ↔ (AreLimits net turns (length gates) → ⊥)) → FaultOf given told net turns (map told gates) why → out ≡ faulty why
-      → ThreadsGive given told net turns gates last out
+  pub fault_gives : (why : RunFault) → why ≢ fault.Memory → (why ≡ fault.BadLimits ↔ (AreLimits net turns (length gates) → ⊥)) → FaultOf given script net turns (map script gates) why → out ≡ faulty why
+      → ThreadsGive given script net turns gates last out
   fault_gives fault.Memory kind exact ended is = absurd (kind refl)
   fault_gives (fault.WorkerRefused u) kind exact ended is = inside (fault.WorkerRefused u) (λ e. absurd cc) exact (inl (u, ended, is))
   fault_gives fault.BadLimits kind exact ended is = inl (exact.0 refl, is)
@@ -279,20 +279,20 @@ module _ {G T : Type 0} (given : G → List Chore) (told : G → T) (net : Plan)
 -- ---- a run of a network
 
 module _ (options : RunOptions) (net : Plan) (set : HasSetting net) (out : Output) where
-  abbrev OfRecord : List Told → Type 0
-  OfRecord tellings =
-      (r : ThreadsRecord given_by told_of net options.turns tellings) × (PrintsStableRoutes r options.snapshots out ⊎ PrintsUnsettled r EveryOrigin options.snapshots out)
+  abbrev OfRecord : List Script → Type 0
+  OfRecord scripts =
+      (r : ThreadsRecord given_by script_of net options.turns scripts) × (PrintsStableRoutes r options.snapshots out ⊎ PrintsUnsettled r EveryOrigin options.snapshots out)
 
-  of_record : (tellings : List Told) → SnapshotsGive given_by told_of EveryOrigin net options.turns tellings options.snapshots out → OfRecord tellings
-  of_record tellings gives = (
+  of_record : (scripts : List Script) → SnapshotsGive given_by script_of EveryOrigin net options.turns scripts options.snapshots out → OfRecord scripts
+  of_record scripts gives = (
     gives.0,
-    elim gives.1 [ inl routes ↦ inl (stable_routes net set options.turns tellings gives.0 options.snapshots out routes) | inr unsettled ↦ inr unsettled ],
+    elim gives.1 [ inl routes ↦ inl (stable_routes net set options.turns scripts gives.0 options.snapshots out routes) | inr unsettled ↦ inr unsettled ],
   )
 
-  pub run_gives : HasRoom net options → SnapshotsGive given_by told_of EveryOrigin net options.turns (run_tellings options net) options.snapshots out → RunGives options net out
-  run_gives room gives = inr (room, inr (of_record (run_tellings options net) gives))
+  pub run_gives : HasRoom net options → SnapshotsGive given_by script_of EveryOrigin net options.turns (run_scripts options net) options.snapshots out → RunGives options net out
+  run_gives room gives = inr (room, inr (of_record (run_scripts options net) gives))
 
-  pub run_fails : (why : RunFault) → why ≢ fault.Memory → IsFaultOfRun options net why → FaultOf given_by told_of net options.turns (run_tellings options net) why → out ≡ faulty why
+  pub run_fails : (why : RunFault) → why ≢ fault.Memory → IsFaultOfRun options net why → FaultOf given_by script_of net options.turns (run_scripts options net) why → out ≡ faulty why
       → RunGives options net out
   run_fails fault.Memory kind of ended is = absurd (kind refl)
   run_fails (fault.WorkerRefused u) kind (inl bad) ended is = absurd (let e = bad.0 in cc)

@@ -57,7 +57,7 @@ IsPassedOver g state demand s =
     (ComesOut g state s Settled → ⊥)
     ⊎ ((parts : ℕ → RouterPart) × HaveMade g state s parts × (Meets demand g.net parts → ⊥))
 
-module _ {G T : Type 0} {given : G → List Chore} {told : G → T} {net : Plan} {turns : ℕ} {tellings : List T} (r : ThreadsRecord given told net turns tellings) where
+module _ {G T : Type 0} {given : G → List Chore} {script : G → T} {net : Plan} {turns : ℕ} {scripts : List T} (r : ThreadsRecord given script net turns scripts) where
   -- the record of the threads, as a run of the network
   abbrev pub RunOfRecord : Setting → Type 0
   RunOfRecord g = IsRunOfThreads g (passed_in r.ways) r.workers r.gathered
@@ -102,18 +102,18 @@ module _ {G T : Type 0} {given : G → List Chore} {told : G → T} {net : Plan}
 -- ---- the text printed of a run
 
 abbrev pub SnapshotsGive : {G T : Type 0} → (G → List Chore) → (G → T) → Demand → Plan → (turns : ℕ) → List T → (last : ℕ) → Output → Type 0
-SnapshotsGive given told demand net turns tellings last out =
-    (r : ThreadsRecord given told net turns tellings) × (PrintsRoutes r demand last out ⊎ PrintsUnsettled r demand last out)
+SnapshotsGive given script demand net turns scripts last out =
+    (r : ThreadsRecord given script net turns scripts) × (PrintsRoutes r demand last out ⊎ PrintsUnsettled r demand last out)
 
 -- the text for so many chores of each worker, at the word of these gates
 abbrev pub ThreadsGive : {G T : Type 0} → (G → List Chore) → (G → T) → Plan → (turns : ℕ) → List G → (last : ℕ) → Output → Type 0
-ThreadsGive given told net turns gates last out =
+ThreadsGive given script net turns gates last out =
     ((AreLimits net turns (length gates) → ⊥) × (out ≡ faulty fault.BadLimits))
-    ⊎ (AreLimits net turns (length gates) × (IsRefusedInside given told net turns (map told gates) out ⊎ SnapshotsGive given told AsRecorded net turns (map told gates) last out))
+    ⊎ (AreLimits net turns (length gates) × (IsRefusedInside given script net turns (map script gates) out ⊎ SnapshotsGive given script AsRecorded net turns (map script gates) last out))
 
 -- the text that a run at the word of any gates prints: this one, or that memory ran out
 abbrev pub Gated : {G T : Type 0} → (G → List Chore) → (G → T) → Plan → (turns : ℕ) → List G → (last : ℕ) → Output → Type 0
-Gated given told net turns gates last out = ThreadsGive given told net turns gates last out ⊎ (out ≡ memory_output)
+Gated given script net turns gates last out = ThreadsGive given script net turns gates last out ⊎ (out ≡ memory_output)
 
 -- ---- the text printed for a network
 

@@ -45,14 +45,14 @@ where
     requires fresh { AllByRecursion (λ gate. G.given gate ≡ []) gates.items }
     // What is written is what is printed of a run of the network in threads, and nothing else.
     ensures done { IfOk result
-        (λ status. WrittenBy (Gated G.given G.told network.now limits.turns gates.items last) (T.contents sink.old)
+        (λ status. WrittenBy (Gated G.given G.script network.now limits.turns gates.items last) (T.contents sink.old)
         (T.contents sink.new) status) }
     // It answers a status only where no write failed, and stops only where one did.
     ensures unfailed { OnOk result (T.failed sink.new ≡ T.failed sink.old) }
     ensures failed { OnErr result (T.failed sink.new ≡ true) }
     // A failed write leaves a beginning of the text.
     ensures stopped { OnErr result
-        (WrittenFrontBy (Gated G.given G.told network.now limits.turns gates.items last) (T.contents sink.old)
+        (WrittenFrontBy (Gated G.given G.script network.now limits.turns gates.items last) (T.contents sink.old)
         (T.contents sink.new)) }
 {
     write_output(

@@ -33,7 +33,7 @@ where
     G: Gate + Send + Drop,
     requires fresh { AllByRecursion (λ gate. G.given gate ≡ []) gates.items }
     ensures { IfOk result
-        (λ printed. ThreadsGive G.given G.told network.now limits.turns gates.items last
+        (λ printed. ThreadsGive G.given G.script network.now limits.turns gates.items last
         (output printed.0.items printed.1)) }
 {
     let _ = network.built();

@@ -14,7 +14,7 @@ use Rattle.router_model.specs.Settings.{linked}
 use Rattle.router_model.specs.declared.command.Command.TheVariants.{Start, Originate, Snapshot}
 use Rattle.worker_loop.specs.declared.chore.Chore.{Chore}
 use Rattle.worker_loop.specs.declared.chore.Chore.TheVariants.{Turn, Command}
-use Rattle.thread_runs.specs.Gates.{opening, first_router, Told, AreChores, numbered_or_turn, later_chore, chore_at, first_chores, told_each}
+use Rattle.thread_runs.specs.Gates.{opening, first_router, Script, AreChores, numbered_or_turn, later_chore, chore_at, first_chores, scripts_for}
 use Rattle.text_engines.proofs.CheckLemmas.{within}
 
 -- ---- one more chore is given
@@ -103,30 +103,30 @@ pub no_spacing : (q k b : ℕ) → q ≡ 0 → later_chore q k b ≡ Turn
 no_spacing q k b none = rw none refl
 
 -- a chore behind the opening
-pub behind_still : (told : Told) (turn i : ℕ) → length told.opening ≤ turn → later_chore told.spacing told.snapshots ((turn - length told.opening) + i) ≡ Turn → chore_at told (turn + i) ≡ Turn
-behind_still told turn i far is =
-    let b = (turn + i) - length told.opening in
-    let same : b ≡ (turn - length told.opening) + i = omega (arith, far) in
-    get_or_past told.opening (turn + i) (later_chore told.spacing told.snapshots b) (omega (arith, far)) ∙ ap (later_chore told.spacing told.snapshots) same ∙ is
+pub behind_still : (script : Script) (turn i : ℕ) → length script.opening ≤ turn → later_chore script.spacing script.snapshots ((turn - length script.opening) + i) ≡ Turn → chore_at script (turn + i) ≡ Turn
+behind_still script turn i far is =
+    let b = (turn + i) - length script.opening in
+    let same : b ≡ (turn - length script.opening) + i = omega (arith, far) in
+    get_or_past script.opening (turn + i) (later_chore script.spacing script.snapshots b) (omega (arith, far)) ∙ ap (later_chore script.spacing script.snapshots) same ∙ is
 
-module _ (told : Told) (apart : 0 < told.spacing) where
-  numbered : (s : ℕ) → 0 < s → s ≤ told.snapshots → chore_at told (length told.opening + s * told.spacing) ≡ Command (Snapshot s)
+module _ (script : Script) (apart : 0 < script.spacing) where
+  numbered : (s : ℕ) → 0 < s → s ≤ script.snapshots → chore_at script (length script.opening + s * script.spacing) ≡ Command (Snapshot s)
   numbered s some few =
-      let i = length told.opening + s * told.spacing in
-      let behind : i - length told.opening ≡ s * told.spacing = omega arith in
-      get_or_past told.opening i (later_chore told.spacing told.snapshots (i - length told.opening)) (omega arith)
-      ∙ ap (later_chore told.spacing told.snapshots) behind ∙ numbered_is told.spacing told.snapshots s apart some few
+      let i = length script.opening + s * script.spacing in
+      let behind : i - length script.opening ≡ s * script.spacing = omega arith in
+      get_or_past script.opening i (later_chore script.spacing script.snapshots (i - length script.opening)) (omega arith)
+      ∙ ap (later_chore script.spacing script.snapshots) behind ∙ numbered_is script.spacing script.snapshots s apart some few
 
-  turns : (i : ℕ) → length told.opening ≤ i → ((s : ℕ) → 0 < s → s ≤ told.snapshots → i ≡ length told.opening + s * told.spacing → ⊥) → chore_at told i ≡ Turn
+  turns : (i : ℕ) → length script.opening ≤ i → ((s : ℕ) → 0 < s → s ≤ script.snapshots → i ≡ length script.opening + s * script.spacing → ⊥) → chore_at script i ≡ Turn
   turns i far never =
-      let b = i - length told.opening in
-      get_or_past told.opening i (later_chore told.spacing told.snapshots b) far
-      ∙ later_turn told.spacing told.snapshots b (told.spacing == 0) (nat_lt 0 (b % told.spacing)) refl refl
-      (λ s some few is. never s some few (let e : i ≡ length told.opening + s * told.spacing = omega (arith, far, is) in e))
+      let b = i - length script.opening in
+      get_or_past script.opening i (later_chore script.spacing script.snapshots b) far
+      ∙ later_turn script.spacing script.snapshots b (script.spacing == 0) (nat_lt 0 (b % script.spacing)) refl refl
+      (λ s some few is. never s some few (let e : i ≡ length script.opening + s * script.spacing = omega (arith, far, is) in e))
 
-  pub are_chores : AreChores told (chore_at told)
+  pub are_chores : AreChores script (chore_at script)
   are_chores = record {
-    first = λ i d below. within told.opening i (later_chore told.spacing told.snapshots (i - length told.opening)) d below;
+    first = λ i d below. within script.opening i (later_chore script.spacing script.snapshots (i - length script.opening)) d below;
     numbered = numbered;
     turns = turns;
   }
@@ -188,24 +188,24 @@ opening_len net u =
     ap length (opening_is net u) ∙ length-append (chosen start (is_peer net u) net.routers) (chosen originate (is_of u) net.origins)
     ∙ ap (λ (n : ℕ). n + length (chosen originate (is_of u) net.origins)) starts ∙ ap (λ (n : ℕ). count_by (is_peer net u) net.routers + n) origins
 
--- ---- what each router is told, one by one
+-- ---- the script of each router, one by one
 
-pub told_on : (net : Plan) (spacing left : ℕ) (rs : List NetRouter) (i : ℕ) (r : NetRouter) (old new all : List Told) → i < length rs → r ≡ get_or rs i r
-    → new ≡ old ++ record { opening = opening net r.asn; spacing = spacing; snapshots = left } ∷ [] → old ++ told_each net spacing left (drop i rs) ≡ all
-    → new ++ told_each net spacing 0 (drop (i + 1) rs) ≡ all
-told_on net spacing left rs i r old new all below at put h =
-    let one : Told = record { opening = opening net r.asn; spacing = spacing; snapshots = left } in
-    let rest = told_each net spacing 0 (drop (i + 1) rs) in
+pub scripts_on : (net : Plan) (spacing left : ℕ) (rs : List NetRouter) (i : ℕ) (r : NetRouter) (old new all : List Script) → i < length rs → r ≡ get_or rs i r
+    → new ≡ old ++ record { opening = opening net r.asn; spacing = spacing; snapshots = left } ∷ [] → old ++ scripts_for net spacing left (drop i rs) ≡ all
+    → new ++ scripts_for net spacing 0 (drop (i + 1) rs) ≡ all
+scripts_on net spacing left rs i r old new all below at put h =
+    let one : Script = record { opening = opening net r.asn; spacing = spacing; snapshots = left } in
+    let rest = scripts_for net spacing 0 (drop (i + 1) rs) in
     let left_is : drop i rs ≡ r ∷ drop (i + 1) rs = drop_more rs i r below ∙ ap (λ (y : NetRouter). y ∷ drop (i + 1) rs) (sym at) in
-    ap (λ (t : List Told). t ++ rest) put ∙ append_assoc old (one ∷ []) rest ∙ ap (λ (ys : List NetRouter). old ++ told_each net spacing left ys) (sym left_is) ∙ h
+    ap (λ (t : List Script). t ++ rest) put ∙ append_assoc old (one ∷ []) rest ∙ ap (λ (ys : List NetRouter). old ++ scripts_for net spacing left ys) (sym left_is) ∙ h
 
-pub all_told : (net : Plan) (spacing left : ℕ) (rs : List NetRouter) (i : ℕ) (old all : List Told) → length rs ≤ i → old ++ told_each net spacing left (drop i rs) ≡ all → old ≡ all
-all_told net spacing left rs i old all far h =
-    sym (append-nil old) ∙ ap (λ (ys : List NetRouter). old ++ told_each net spacing left ys) (sym (drop_all i rs far)) ∙ h
+pub all_scripts : (net : Plan) (spacing left : ℕ) (rs : List NetRouter) (i : ℕ) (old all : List Script) → length rs ≤ i → old ++ scripts_for net spacing left (drop i rs) ≡ all → old ≡ all
+all_scripts net spacing left rs i old all far h =
+    sym (append-nil old) ∙ ap (λ (ys : List NetRouter). old ++ scripts_for net spacing left ys) (sym (drop_all i rs far)) ∙ h
 
-pub told_len : (net : Plan) (spacing left : ℕ) (rs : List NetRouter) → length (told_each net spacing left rs) ≡ length rs
-told_len net spacing left [] = refl
-told_len net spacing left (r ∷ rs) = ap suc (told_len net spacing 0 rs)
+pub scripts_len : (net : Plan) (spacing left : ℕ) (rs : List NetRouter) → length (scripts_for net spacing left rs) ≡ length rs
+scripts_len net spacing left [] = refl
+scripts_len net spacing left (r ∷ rs) = ap suc (scripts_len net spacing 0 rs)
 
 pub first_is : (rs : List NetRouter) (d : NetRouter) → 0 < length rs → first_router rs ≡ (get_or rs 0 d).asn
 first_is [] d some = absurd (omega (arith, some))

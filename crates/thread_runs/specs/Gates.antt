@@ -22,17 +22,17 @@ originated net u = filter (λ o. o.router == u) net.origins
 abbrev pub opening : Plan → ℕ → List Chore
 opening net u = map (λ v. Command (Start v)) (peers net u) ++ map (λ o. Command (Originate o.prefix)) (originated net u)
 
--- what a gate is told: an opening, and behind it the snapshots of these numbers, each so far behind the one before
-pub record Told : Type 0 where
+-- the script of a gate: an opening, and behind it the snapshots of these numbers, each so far behind the one before
+pub record Script : Type 0 where
   pub opening : List Chore
   pub spacing : ℕ
   pub snapshots : ℕ
 
 -- the chores by their turns, counted from 0: the opening; each number from 1 to the last at its place; else Turns
-pub record AreChores (told : Told) (chore : ℕ → Chore) : Type 0 where
-  pub first : (i : ℕ) (d : Chore) → i < length told.opening → chore i ≡ slice_index_or told.opening i d
-  pub numbered : (s : ℕ) → 0 < s → s ≤ told.snapshots → chore (length told.opening + s * told.spacing) ≡ Command (Snapshot s)
-  pub turns : (i : ℕ) → length told.opening ≤ i → ((s : ℕ) → 0 < s → s ≤ told.snapshots → i ≡ length told.opening + s * told.spacing → ⊥)
+pub record AreChores (script : Script) (chore : ℕ → Chore) : Type 0 where
+  pub first : (i : ℕ) (d : Chore) → i < length script.opening → chore i ≡ slice_index_or script.opening i d
+  pub numbered : (s : ℕ) → 0 < s → s ≤ script.snapshots → chore (length script.opening + s * script.spacing) ≡ Command (Snapshot s)
+  pub turns : (i : ℕ) → length script.opening ≤ i → ((s : ℕ) → 0 < s → s ≤ script.snapshots → i ≡ length script.opening + s * script.spacing → ⊥)
       → chore i ≡ Turn
 
 -- ---- the chores as a function that computes
@@ -43,8 +43,8 @@ numbered_or_turn snapshots s = cond ((s == 0) || nat_lt snapshots s) Turn (Comma
 abbrev pub later_chore : (spacing snapshots behind : ℕ) → Chore
 later_chore spacing snapshots behind = cond ((spacing == 0) || nat_lt 0 (behind % spacing)) Turn (numbered_or_turn snapshots (behind / spacing))
 
-abbrev pub chore_at : Told → ℕ → Chore
-chore_at told i = slice_index_or told.opening i (later_chore told.spacing told.snapshots (i - length told.opening))
+abbrev pub chore_at : Script → ℕ → Chore
+chore_at script i = slice_index_or script.opening i (later_chore script.spacing script.snapshots (i - length script.opening))
 
 -- the first n chores
 abbrev pub first_chores : (ℕ → Chore) → ℕ → List Chore
@@ -53,18 +53,18 @@ first_chores chore (suc n) = first_chores chore n ++ chore n ∷ []
 
 -- ---- gates
 
-abbrev pub told_of : RunGate → Told
-told_of g = record { opening = g.opening.items; spacing = g.spacing; snapshots = g.snapshots }
+abbrev pub script_of : RunGate → Script
+script_of g = record { opening = g.opening.items; spacing = g.spacing; snapshots = g.snapshots }
 
 -- the chores that a gate gave so far
 abbrev pub given_by : RunGate → List Chore
-given_by g = first_chores (chore_at (told_of g)) g.count
+given_by g = first_chores (chore_at (script_of g)) g.count
 
--- what each router's gate is told: the least router takes the snapshots
-abbrev pub told_each : Plan → (spacing snapshots : ℕ) → List NetRouter → List Told
-told_each net spacing snapshots [] = []
-told_each net spacing snapshots (r ∷ rs) =
-    record { opening = opening net r.asn; spacing = spacing; snapshots = snapshots } ∷ told_each net spacing 0 rs
+-- the script of each router's gate: the least router takes the snapshots
+abbrev pub scripts_for : Plan → (spacing snapshots : ℕ) → List NetRouter → List Script
+scripts_for net spacing snapshots [] = []
+scripts_for net spacing snapshots (r ∷ rs) =
+    record { opening = opening net r.asn; spacing = spacing; snapshots = snapshots } ∷ scripts_for net spacing 0 rs
 
 -- ---- options
 

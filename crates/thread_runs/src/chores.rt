@@ -3,7 +3,7 @@
 ghost use Rattle.std.specs.Prelude.{◌≡◌, ◌<◌, ◌==◌, [], length, map, count_by, IfOk, MatchOption};
 ghost use Rattle.std.specs.List.{AllByRecursion};
 ghost use Rattle.router_model.specs.Settings.{linked};
-ghost use Rattle.thread_runs.specs.Gates.{opening, given_by, told_of, told_each, spacing_of, HasRoom};
+ghost use Rattle.thread_runs.specs.Gates.{opening, given_by, script_of, scripts_for, spacing_of, HasRoom};
 
 use crate::gates::RunGate;
 use net_workers::{Chore, MOST_TURNS};
@@ -107,8 +107,8 @@ pub fn new_gates(
     requires { 0 < spacing }
     ensures many { IfOk result (λ gates. length gates.items ≡ length network.now.routers) }
     ensures nothing { IfOk result (λ gates. AllByRecursion (λ gate. given_by gate ≡ []) gates.items) }
-    ensures told { IfOk result
-        (λ gates. map told_of gates.items ≡ told_each network.now spacing snapshots network.now.routers) }
+    ensures script { IfOk result
+        (λ gates. map script_of gates.items ≡ scripts_for network.now spacing snapshots network.now.routers) }
 {
     let mut gates = Vec::new(alloc);
     let mut left = snapshots;

@@ -2,7 +2,7 @@
 
 ghost use Rattle.std.specs.Prelude.{◌≡◌, ℕ, ◌+◌, ◌<◌, []};
 ghost use Rattle.worker_loop.specs.declared.chore.Chore.TheVariants.{Turn};
-ghost use Rattle.thread_runs.specs.Gates.{AreChores, chore_at, later_chore, given_by, told_of};
+ghost use Rattle.thread_runs.specs.Gates.{AreChores, chore_at, later_chore, given_by, script_of};
 
 use net_workers::{Chore, Gate};
 use ranked_policy::Asn;
@@ -25,8 +25,8 @@ impl RunGate {
     pub fn new(opening: Vec<Chore>, spacing: u32, snapshots: u32) -> RunGate
         requires { 0 < spacing }
         ensures nothing { given_by result ≡ [] }
-        ensures told { told_of result ≡ record { opening = opening.items; spacing = spacing; snapshots = snapshots } }
-        ensures chores { AreChores (told_of result) (chore_at (told_of result)) }
+        ensures script { script_of result ≡ record { opening = opening.items; spacing = spacing; snapshots = snapshots } }
+        ensures chores { AreChores (script_of result) (chore_at (script_of result)) }
     {
         RunGate {
             opening,
@@ -82,11 +82,11 @@ fn turns_from(spacing: u32, snapshots: u32, behind: u32) -> u32
 }
 
 impl Gate for RunGate {
-    ghost use Rattle.thread_runs.specs.Gates.{Told};
+    ghost use Rattle.thread_runs.specs.Gates.{Script};
 
-    ghost Told = { Told };
+    ghost Script = { Script };
 
-    ghost told = { told_of };
+    ghost script = { script_of };
 
     ghost given = { given_by };
 
@@ -102,7 +102,7 @@ impl Gate for RunGate {
     }
 
     fn turns_from(&self, turn: u32) -> u32
-        ensures { (i : ℕ) → i < result → chore_at (told_of self.now) (turn + i) ≡ Turn }
+        ensures { (i : ℕ) → i < result → chore_at (script_of self.now) (turn + i) ≡ Turn }
     {
         let at = turn as usize;
         let opening = self.opening.len();

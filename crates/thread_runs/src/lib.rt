@@ -3,7 +3,7 @@
 //!
 //! [`run_network`] answers what a network did that ran for [`RunOptions`], at the word of gates that [`new_gates`]
 //! makes, each a [`RunGate`]; [`fault_output`] makes the text where it did not run. The definitions stand in `specs/`:
-//! `Gates` (what routers are told) and `Records`. Left out: what is printed of a record, by `run_engine` and
+//! `Gates` (the scripts of routers) and `Records`. Left out: what is printed of a record, by `run_engine` and
 //! `record_engine`.
 #![tactic(auto)]
 

@@ -8,8 +8,8 @@ ghost use Rattle.net_workers.specs.Runs.{JournalsKeepPromises};
 ghost use Rattle.net_workers.specs.Ways.{AreWays, passed_in};
 ghost use Rattle.net_workers.specs.Faults.{FaultOf};
 ghost use Rattle.text_engines.specs.Decoding.{output};
-ghost use Rattle.thread_runs.specs.Gates.{HasRoom, given_by, told_of};
-ghost use Rattle.thread_runs.specs.Records.{IsFaultOfRun, faulty, run_tellings};
+ghost use Rattle.thread_runs.specs.Gates.{HasRoom, given_by, script_of};
+ghost use Rattle.thread_runs.specs.Records.{IsFaultOfRun, faulty, run_scripts};
 
 use crate::chores::{RunOptions, new_gates, spacing};
 use crate::gates::RunGate;
@@ -35,11 +35,11 @@ where
     R: Threads + Wait + Sync,
     ensures room { OnOk result (HasRoom network.now options.now) }
     ensures refused { IfErr result (IsFaultOfRun options.now network.now) }
-    // The fault of a worker is that of the least router that has one, of routers that were told this.
+    // The fault of a worker is that of the least router that has one, of some routers with these scripts.
     ensures fault { IfErr result
-        (FaultOf given_by told_of network.now options.now.turns (run_tellings options.now network.now)) }
-    // Router by router, each was told its opening and its turns, and the least its snapshots.
-    ensures told { IfOk result (λ r. map (λ w. told_of w.gate) r.workers.items ≡ run_tellings options.now network.now) }
+        (FaultOf given_by script_of network.now options.now.turns (run_scripts options.now network.now)) }
+    // Router by router, its script is its opening and its turns, and the least router takes the snapshots.
+    ensures script { IfOk result (λ r. map (λ w. script_of w.gate) r.workers.items ≡ run_scripts options.now network.now) }
     ensures ways { IfOk result (λ r. AreWays network.now r.ways.items) }
     ensures recorded { IfOk result
         (λ r. AreRecord given_by network.now options.now.turns (passed_in r.ways.items) r.workers.items r.collector) }

@@ -52,9 +52,9 @@ impl Gate for ScriptGate {
     ghost use Rattle.std.specs.Prelude.{List, ℕ};
     ghost use Rattle.worker_loop.specs.declared.chore.Chore.{Chore};
 
-    ghost Told = { List (ℕ × Chore) };
+    ghost Script = { List (ℕ × Chore) };
 
-    ghost told = { λ g. g.script.items };
+    ghost script = { λ g. g.script.items };
 
     ghost given = { given_by };
 

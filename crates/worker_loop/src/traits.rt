@@ -21,10 +21,10 @@ use std::sync::Wait;
 
 /// Gives a worker its chores, one after the other. A call may wait.
 pub trait Gate {
-    /// What the gate was told, which no call changes.
-    ghost Told: { Type 0 };
+    /// The script that the gate follows, which no call changes.
+    ghost Script: { Type 0 };
 
-    ghost told: { Self → Told };
+    ghost script: { Self → Script };
 
     /// The chores given so far.
     ghost given: { Self → List Chore };
@@ -33,7 +33,7 @@ pub trait Gate {
     fn next<R: Wait>(&mut self, rt: &R, router: Asn, turn: u32) -> Chore
         requires { turn ≡ length (given self.old) }
         ensures given { given self.new ≡ given self.old ++ result ∷ [] }
-        ensures told { told self.new ≡ told self.old };
+        ensures script { script self.new ≡ script self.old };
 
     /// At least how many of its chores from a turn on are Turns, as far as it can say: for so long its worker may wait
     /// for the others. A gate that waits for another one answers 0.
@@ -47,7 +47,7 @@ pub trait Gate {
         requires { _turn ≡ length (given self.old) }
         ensures most { result ≤ _most }
         ensures given { given self.new ≡ given self.old ++ replicate result Turn }
-        ensures told { told self.new ≡ told self.old }
+        ensures script { script self.new ≡ script self.old }
     {
         0
     }

@@ -107,7 +107,7 @@ impl<'a, L: Pipes, D: Desk, G: Gate> Worker<'a, L, D, G> {
         ensures whole { IfOk result (λ _. IsWhole turns (G.given self.new.gate)) }
         ensures chores { IfOk result (λ _. self.new.journal.chores.items ≡ G.given self.new.gate) }
         ensures same { IsLaterWorker L.wiring self.old self.new }
-        ensures told { G.told self.new.gate ≡ G.told self.old.gate }
+        ensures script { G.script self.new.gate ≡ G.script self.old.gate }
         ensures ended { IfErr result (EndsFor L.taken_from turns (G.given self.new.gate) self.new) }
     {
         let mut given = 0;

@@ -82,9 +82,9 @@ impl Gate for HeldGate<'_> {
     ghost use Rattle.std.specs.Prelude.{List, ℕ};
     ghost use Rattle.worker_loop.specs.declared.chore.Chore.{Chore};
 
-    ghost Told = { List (ℕ × Chore) };
+    ghost Script = { List (ℕ × Chore) };
 
-    ghost told = { λ g. g.script.script.items };
+    ghost script = { λ g. g.script.script.items };
 
     ghost given = { λ g. given_by g.script ++ replicate g.stops Stop };
 

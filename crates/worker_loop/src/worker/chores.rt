@@ -34,7 +34,7 @@ impl<'a, L: Pipes, D: Desk, G: Gate> Worker<'a, L, D, G> {
         ensures chores { IfOk result
             (λ chore. self.new.journal.chores.items ≡ self.old.journal.chores.items ++ chore ∷ []) }
         ensures rest { IsSameBut self.old self.new }
-        ensures told { G.told self.new.gate ≡ G.told self.old.gate }
+        ensures script { G.script self.new.gate ≡ G.script self.old.gate }
         ensures why { IfErr result (λ why. why ≡ WorkerFault.Memory) }
         ensures none { OnErr result (G.given self.new.gate ≡ G.given self.old.gate) }
         ensures as_they_were { OnErr result (self.new.journal.chores.items ≡ self.old.journal.chores.items) }

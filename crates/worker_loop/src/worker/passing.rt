@@ -48,7 +48,7 @@ impl<'a, L: Pipes, D: Desk, G: Gate> Worker<'a, L, D, G> {
         ensures given { G.given self.new.gate ≡ G.given self.old.gate ++ replicate result Turn }
         ensures chores { self.new.journal.chores.items ≡ self.old.journal.chores.items ++ replicate result Turn }
         ensures rest { IsSameBut self.old self.new }
-        ensures told { G.told self.new.gate ≡ G.told self.old.gate }
+        ensures script { G.script self.new.gate ≡ G.script self.old.gate }
     {
         let most = most.min(self.gate.turns_from(given));
         let chores = &mut self.journal.chores;

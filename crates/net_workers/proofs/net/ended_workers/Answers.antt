@@ -9,6 +9,6 @@ returns-clause-ended g c =
     have_ended g.G.Gate.given c.args.network.now c.args.turns c.in_ok-workers.workers.items c.run_all.new.workers.items ran.many ran.same ran.ended ran.ran
     made.network made.numbers made.fresh made.dealt
 
-pub returns-clause-told : goal.returns-clause-told
-returns-clause-told g c =
-    gates_are g.G.Gate.told c.in_ok-workers.workers.items c.run_all.new.workers.items c.args.gates.items c.run_all.ensures.many c.run_all.ensures.told c.in_ok-workers.ensures.gates
+pub returns-clause-script : goal.returns-clause-script
+returns-clause-script g c =
+    gates_are g.G.Gate.script c.in_ok-workers.workers.items c.run_all.new.workers.items c.args.gates.items c.run_all.ensures.many c.run_all.ensures.script c.in_ok-workers.ensures.gates

@@ -21,7 +21,7 @@ returns-in_ok-record-in-Ok g c =
           gathered = r.gathered.items;
           recorded = rw (e.workers, e.ways, e.collector) (c.in-Ok.ensures.recorded r.gathered.items e.sorted);
           pipes = rw (e.ways) c.in-Ok.ensures.ways;
-          gates = rw (e.workers) c.in-Ok.ensures.told;
+          gates = rw (e.workers) c.in-Ok.ensures.script;
           promises = rw (e.workers, e.ways, e.collector) (c.in-Ok.ensures.promises r.gathered.items e.sorted);
         };
         are_decided = subst (λ (ns : List ℕ). AreDecided r.collector ns) c.decided.ensures.value c.decided.ensures.decided;

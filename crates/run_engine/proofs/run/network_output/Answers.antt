@@ -21,7 +21,7 @@ returns-in-Ok g c =
       gathered = sorted.0;
       recorded = c.in-Ok.ensures.recorded sorted.0 sorted.1;
       pipes = c.in-Ok.ensures.ways;
-      gates = c.in-Ok.ensures.told;
+      gates = c.in-Ok.ensures.script;
       promises = c.in-Ok.ensures.promises sorted.0 sorted.1;
     })
     options.snapshots (output printed.0.items printed.1) gives))

@@ -21,7 +21,7 @@ returns-in-Ok g c =
             gathered = sorted.0;
             recorded = c.in-Ok.ensures.recorded sorted.0 sorted.1;
             pipes = c.in-Ok.ensures.ways;
-            gates = c.in-Ok.ensures.told;
+            gates = c.in-Ok.ensures.script;
             promises = c.in-Ok.ensures.promises sorted.0 sorted.1;
           })
           c.args.last (output printed.0.items printed.1) gives),
@@ -31,5 +31,5 @@ returns-in-Ok g c =
 pub returns-in-Err : goal.returns-in-Err
 returns-in-Err g c =
     both_ok _ _ _ c.fault_output.result
-    (λ printed kind is. fault_gives g.G.Gate.given g.G.Gate.told c.args.network.now c.args.limits.turns c.args.gates.items c.args.last (output printed.0.items printed.1) c.in-Err.fault kind c.in-Err.ensures.refused c.in-Err.ensures.fault is)
+    (λ printed kind is. fault_gives g.G.Gate.given g.G.Gate.script c.args.network.now c.args.limits.turns c.args.gates.items c.args.last (output printed.0.items printed.1) c.in-Err.fault kind c.in-Err.ensures.refused c.in-Err.ensures.fault is)
     c.fault_output.ensures.kind c.fault_output.ensures.output

@@ -56,7 +56,7 @@ chores-preserved g c =
       goes_on = subst (All (λ x. x ≢ Stop)) (sym p.given) (All-append (λ x. x ≢ Stop) _ (replicate c.pass-given.result Turn) all turns);
       chores = p.chores ∙ ap (λ l. l ++ replicate c.pass-given.result Turn) written ∙ sym p.given;
       same = next_same _ _ _ _ (same_on _ _ _ _ here o.same.later) p.rest;
-      told = p.told ∙ ap g.G.Gate.told o.same.gate ∙ n.told ∙ i.told;
+      script = p.script ∙ ap g.G.Gate.script o.same.gate ∙ n.script ∙ i.script;
     }
 
 pub returns-in_err-chore-clause-ended : goal.returns-in_err-chore-clause-ended

@@ -18,5 +18,5 @@ invariant-chores g l = record {
   goes_on : All (λ c. c ≢ Stop) (g.G.Gate.given l.self.gate);
   chores : l.self.journal.chores.items ≡ g.G.Gate.given l.self.gate;
   same : IsLaterWorker g.L.Pipes.wiring l.fn.self l.self;
-  told : g.G.Gate.told l.self.gate ≡ g.G.Gate.told l.fn.self.gate;
+  script : g.G.Gate.script l.self.gate ≡ g.G.Gate.script l.fn.self.gate;
 }
