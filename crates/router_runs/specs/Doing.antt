@@ -22,26 +22,12 @@ pub record Stands (s : Side) (end far : End Message) : Type 0 where
 -- ---- events that leave Established
 
 abbrev pub is_up_in : SessionState → Bool
-is_up_in model.Idle = false
-is_up_in model.Connect = false
-is_up_in model.Active = false
-is_up_in model.OpenSent = false
-is_up_in model.OpenConfirm = false
 is_up_in model.Established = true
+is_up_in _ = false
 
 abbrev pub closes : SessionEvent Message → Bool
-closes (model.Starts m) = false
-closes (model.Retries m) = false
-closes (model.Confirms n m) = false
-closes (model.Yields n m) = false
-closes (model.AcceptsOpen m keepalive) = false
-closes (model.AcceptsKeepalive m) = false
-closes (model.Accepts m) = false
-closes (model.Speaks m) = false
-closes (model.SendsMarker k) = false
 closes (model.Closes ms) = true
-closes model.Fails = false
-closes (model.Passes entry) = false
+closes _ = false
 
 -- one of these events closes a session that is up
 abbrev pub leaves_in : model.Side Message → List (SessionEvent Message) → Bool

@@ -32,11 +32,9 @@ state_of state.Established = model.Established
 -- the phase that a session's state goes with
 abbrev pub phase_in : State → Phase
 phase_in state.Idle = phase.Shut
-phase_in state.Connect = phase.Offered
 phase_in state.Active = phase.Shut
-phase_in state.OpenSent = phase.Joined
-phase_in state.OpenConfirm = phase.Joined
-phase_in state.Established = phase.Joined
+phase_in state.Connect = phase.Offered
+phase_in _ = phase.Joined
 
 -- a side is this end: its numbers, its phase and its histories are those of what the end appended, took and used
 pub record Reads (s : Side) (end : End Message) : Type 0 where

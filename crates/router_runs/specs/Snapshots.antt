@@ -11,7 +11,7 @@ use Rattle.ranked_policy.specs.Plans.{IsOrigin}
 use Rattle.stable_paths.specs.Stable.{IsStable}
 use Rattle.run_model.specs.Octets.{passing}
 use Rattle.run_model.specs.Network as runs
-use Rattle.run_model.specs.Network.{NetworkEvent, alone, puts, takes, offers}
+use Rattle.run_model.specs.Network.{NetworkEvent, alone}
 use Rattle.run_model.specs.Offers.{Finished, Lost, Closed, Outcome, Settled, Moving, Why, Mismatch, HasOutcome, made_of, IsIn}
 use Rattle.outbox.specs.declared.item.What.{What}
 use Rattle.snap_marker.specs.Recordings.{RouterPart, MadeOffer, Snapshots}
@@ -19,7 +19,7 @@ use Rattle.router_model.specs.declared.command.Command.TheVariants as command
 use Rattle.router_model.specs.Settings.{Setting, IsSetting, is_router, linked, names}
 use Rattle.router_model.specs.Sides.{is_up}
 use Rattle.router_model.specs.State.{Router, best_path, is_pending}
-use Rattle.router_model.specs.Step.{Own, RouterEvent, Obeys, Ticks, Handles, Decides, Advertises}
+use Rattle.router_model.specs.Step.{Own, RouterEvent, Obeys}
 use Rattle.router_model.specs.Laws.{all_passes}
 use Rattle.router_model.specs.Recording.{IsRecording, LeavesFirst}
 use Rattle.router_runs.specs.Runs.{RunOrder, RunState, IsRunTo, IsEventOf, logged_steps, side_of, log_of, written_in}
@@ -145,13 +145,7 @@ SettledIsStable =
 abbrev pub IsCommand : RouterEvent → Type 0
 IsCommand (alone (Obeys (command.Snapshot k))) = ⊥
 IsCommand (alone (Obeys c)) = Unit {0}
-IsCommand (alone Ticks) = ⊥
-IsCommand (alone (Handles v)) = ⊥
-IsCommand (alone Decides) = ⊥
-IsCommand (alone (Advertises v)) = ⊥
-IsCommand (puts v i) = ⊥
-IsCommand (takes v i) = ⊥
-IsCommand (offers made) = ⊥
+IsCommand _ = ⊥
 
 -- a step of router u does no command, and no session leaves Established in it
 pub record IsQuiet (g : Setting) (u : ℕ) (x y : Router) (e : RouterEvent) : Type 0 where

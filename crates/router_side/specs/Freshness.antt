@@ -4,7 +4,7 @@ use Rattle.std.specs.Prelude.{ℕ, ◌≡◌, ◌<◌, ◌≤◌, Bool, true, fa
 use Rattle.bgp_codec.specs.declared.message.Message.{Message}
 use Rattle.link_epoch.specs.declared.link_end.Phase.TheVariants.{Shut}
 use Rattle.session_fsm.specs.declared.state.State.{State}
-use Rattle.session_fsm.specs.declared.state.State.TheVariants.{Idle, Connect, Active, OpenSent, OpenConfirm, Established}
+use Rattle.session_fsm.specs.declared.state.State.TheVariants.{Idle, Connect, Active, OpenSent, OpenConfirm}
 use Rattle.session_fsm.specs.declared.event.FsmEvent.TheVariants.{ManualStart, ManualStop}
 use Rattle.std.specs.Prelude.{Result}
 use Rattle.bgp_codec.specs.declared.fault.Fault.{Fault}
@@ -13,21 +13,16 @@ use Rattle.router_model.specs.Sides.{Side, Draft, AtHand, NoMessage, draft_event
 
 -- the session is on its way to Established
 abbrev pub is_opening : State → Bool
-is_opening Idle = false
 is_opening Connect = true
-is_opening Active = false
 is_opening OpenSent = true
 is_opening OpenConfirm = true
-is_opening Established = false
+is_opening _ = false
 
 -- the session has no incarnation of its link
 abbrev pub is_away : State → Bool
 is_away Idle = true
-is_away Connect = false
 is_away Active = true
-is_away OpenSent = false
-is_away OpenConfirm = false
-is_away Established = false
+is_away _ = false
 
 -- nothing was acted on or sent in this incarnation
 abbrev pub IsUnsaid : Side → ℕ → Type 0

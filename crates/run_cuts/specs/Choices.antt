@@ -4,13 +4,13 @@ use Rattle.std.specs.Prelude.{ℕ, ◌≡◌, ◌<◌, [], ◌∷◌, ◌++◌, 
 use Rattle.std.specs.List.{find}
 use Rattle.outbox.specs.Items.{next_item, octets_waiting}
 use Rattle.run_model.specs.Network as runs
-use Rattle.run_model.specs.Network.{alone, puts, takes, offers}
+use Rattle.run_model.specs.Network.{alone, puts}
 use Rattle.run_model.specs.ThroughCut.{first_part, second_part, with_offers}
 use Rattle.snap_marker.specs.Recordings.{RouterPart}
 use Rattle.router_model.specs.declared.limits.TheConstants.{OUTBOX_LIMIT}
 use Rattle.router_model.specs.Settings.{Setting, IsSetting, peers}
 use Rattle.router_model.specs.State.{Router, is_waiting_peer}
-use Rattle.router_model.specs.Step.{RouterEvent, Obeys, Ticks, Handles, Decides, Advertises}
+use Rattle.router_model.specs.Step.{RouterEvent, Advertises}
 use Rattle.router_runs.specs.Runs.{RunOrder, RunState, IsRunTo, new_logged, logged_steps}
 use Rattle.router_runs.specs.Snapshots.{HaveMade}
 use Rattle.run_cuts.specs.ThroughSnapshot.{ThroughItsCut}
@@ -19,12 +19,7 @@ module _ (g : Setting) (u : ℕ) (x : Router) where
   abbrev pub IsChosen : RouterEvent → Type 0
   IsChosen (puts v i) = next_item g.net.settings.cut (x.sides v).outbox ≡ Some i
   IsChosen (alone (Advertises v)) = find (is_waiting_peer g u x) (peers g.net u) ≡ Some v
-  IsChosen (alone (Obeys c)) = Unit {0}
-  IsChosen (alone Ticks) = Unit {0}
-  IsChosen (alone (Handles v)) = Unit {0}
-  IsChosen (alone Decides) = Unit {0}
-  IsChosen (takes v i) = Unit {0}
-  IsChosen (offers made) = Unit {0}
+  IsChosen _ = Unit {0}
 
   -- every outbox has room
   abbrev pub HasRoom : Type 0

@@ -6,7 +6,7 @@ use Rattle.ranked_policy.specs.Plans.{Plan, IsOrigin}
 use Rattle.ranked_policy.specs.declared.network.Origin.{Origin}
 use Rattle.stable_paths.specs.Stable.{IsStable}
 use Rattle.run_model.specs.Network.{Run}
-use Rattle.run_model.specs.Offers.{Outcome, Waiting, Abandoned, Moving, Settled}
+use Rattle.run_model.specs.Offers.{Outcome, Settled}
 use Rattle.snap_marker.specs.Recordings.{RouterPart, MadeOffer}
 use Rattle.snap_collector.specs.Collecting.{member_of}
 use Rattle.snap_collector.specs.Collector.{CollectorView, made_for, kept_of}
@@ -142,9 +142,7 @@ Runs options input out = OrMemory (InputRuns options) input out
 
 abbrev pub is_settled : Outcome → Bool
 is_settled Settled = true
-is_settled Waiting = false
-is_settled (Moving u why) = false
-is_settled (Abandoned u v e cause) = false
+is_settled _ = false
 
 -- the offers that decide a snapshot
 abbrev pub decided_by : CollectorView → ℕ → List MadeOffer

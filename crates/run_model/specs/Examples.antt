@@ -128,23 +128,16 @@ announces =
     ∷ moves 2 1 (Takes (Says 1 (Update 7 1)))
     ∷ does 2 (Decide 7) ∷ does 2 (Advertise 1 7 (Update 7 2)) ∷ moves 1 2 (Takes (Says 1 (Update 7 2))) ∷ []
 
+-- a part of a router with one peer, whose session is in incarnation 1
+abbrev pub part_with : (kept : ℕ → ℕ) → (originated : ℕ → Bool) → (channel : ℕ → List Sample) → Part Sample ℕ ℕ
+part_with kept originated channel =
+    record { kept = kept; originated = originated; incarnation = λ v. 1; pending = false; channel = channel }
+
 abbrev pub part_1 : Part Sample ℕ ℕ
-part_1 = record {
-  kept = λ p. cond (p == 7) 1 0;
-  originated = λ p. p == 7;
-  incarnation = λ v. 1;
-  pending = false;
-  channel = λ v. [];
-}
+part_1 = part_with (λ p. cond (p == 7) 1 0) (λ p. p == 7) (λ v. [])
 
 abbrev pub part_2 : Part Sample ℕ ℕ
-part_2 = record {
-  kept = λ p. cond (p == 7) 2 0;
-  originated = λ p. false;
-  incarnation = λ v. 1;
-  pending = false;
-  channel = λ v. [];
-}
+part_2 = part_with (λ p. cond (p == 7) 2 0) (λ p. false) (λ v. [])
 
 -- router 1 begins snapshot 5, router 2 follows, both finish and offer
 abbrev pub begins_5 : List (OfferStep Sample ℕ ℕ)
@@ -184,22 +177,10 @@ abbrev pub begins_6 : ℕ → List (OfferStep Sample ℕ ℕ)
 begins_6 u = does u (Acts (Begins 6 true)) ∷ []
 
 abbrev pub moving_part_1 : Part Sample ℕ ℕ
-moving_part_1 = record {
-  kept = λ p. 0;
-  originated = λ p. false;
-  incarnation = λ v. 1;
-  pending = false;
-  channel = λ v. [];
-}
+moving_part_1 = part_with (λ p. 0) (λ p. false) (λ v. [])
 
 abbrev pub moving_part_2 : Part Sample ℕ ℕ
-moving_part_2 = record {
-  kept = λ p. cond (p == 7) 2 0;
-  originated = λ p. false;
-  incarnation = λ v. 1;
-  pending = false;
-  channel = λ v. Update 7 0 ∷ [];
-}
+moving_part_2 = part_with (λ p. cond (p == 7) 2 0) (λ p. false) (λ v. Update 7 0 ∷ [])
 
 abbrev pub finishes_6 : List (OfferStep Sample ℕ ℕ)
 finishes_6 =

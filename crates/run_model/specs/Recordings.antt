@@ -45,11 +45,8 @@ module _ {M : Type 0} where
 
   -- a session that leaves Established loses the unfinished recording
   abbrev pub unfinished_after : Bool → Move M → Option ℕ → Option ℕ
-  unfinished_after up Dials n = n
-  unfinished_after up (Tells m) n = n
-  unfinished_after up (Marks s) n = n
   unfinished_after up HangsUp n = cond up None n
-  unfinished_after up (Takes x) n = n
+  unfinished_after up _ n = n
 
   abbrev pub recording : Recorder M → (ℕ → End M) → ℕ → Bool → (ℕ → Bool) → Recorder M
   recording x ends s whole waits = record {
@@ -106,14 +103,9 @@ module _ {M : Type 0} where
 
   -- a move that has to do with no marker
   abbrev pub IsPlain : Move M → Type 0
-  IsPlain Dials = Unit {0}
-  IsPlain (Tells m) = Unit {0}
   IsPlain (Marks s) = ⊥
-  IsPlain HangsUp = Unit {0}
-  IsPlain (Takes (Dial e)) = Unit {0}
-  IsPlain (Takes (Says e m)) = Unit {0}
   IsPlain (Takes (Mark e s)) = ⊥
-  IsPlain (Takes (Shut e)) = Unit {0}
+  IsPlain _ = Unit {0}
 
   abbrev pub AllUp : (ℕ → Bool) → (ℕ → End M) → Bool → Type 0
   AllUp linked ends whole = whole ≡ true → (v : ℕ) → linked v ≡ true → is_up (ends v) ≡ true

@@ -1,8 +1,8 @@
 -- Routers that choose routes and tell them to their peers, over routers that record snapshots: ranked paths, choices and
 -- stable path assignments (Griffin, Shepherd and Wilfong 2002).
 use Rattle.std.specs.Prelude.{ℕ, ◌≡◌, ◌≢◌, ◌==◌, Bool, true, false, ◌&&◌, not, cond, List, [], ◌∷◌, ◌++◌, Some, filter}
-use Rattle.run_model.specs.Links.{End, Move, Dials, Tells, Marks, HangsUp, Takes, said, is_up, incarnation}
-use Rattle.run_model.specs.Recordings.{Recorder, Act, Moves, EndsChannel, IgnoresMarker, Begins, Follows, Finishes, recorder_after, new_recorder, MayAct}
+use Rattle.run_model.specs.Links.{End, Move, Tells, HangsUp, said, is_up, incarnation}
+use Rattle.run_model.specs.Recordings.{Recorder, Act, Moves, Begins, Follows, recorder_after, new_recorder, MayAct}
 
 -- a network of routers that speak messages M of prefixes P and paths W
 pub record Network (M P W : Type 0) : Type 0 where
@@ -81,28 +81,18 @@ pub data Event (M P W : Type 0) : Type 0 where
 module _ {M : Type 0} where
   -- whether this act records a number
   abbrev pub records : Act M → ℕ → Bool
-  records (Moves v move) n = false
-  records (EndsChannel v e s) n = false
-  records (IgnoresMarker v e s) n = false
   records (Begins s whole) n = n == s
   records (Follows v e s whole) n = n == s
-  records (Finishes s) n = false
+  records _ n = false
 
   abbrev pub hangs_up : Move M → Bool
-  hangs_up Dials = false
-  hangs_up (Tells m) = false
-  hangs_up (Marks s) = false
   hangs_up HangsUp = true
-  hangs_up (Takes x) = false
+  hangs_up _ = false
 
   -- whether a session leaves Established
   abbrev pub leaves : Recorder M → Act M → Bool
   leaves x (Moves v move) = is_up (x.ends v) && hangs_up move
-  leaves x (EndsChannel v e s) = false
-  leaves x (IgnoresMarker v e s) = false
-  leaves x (Begins s whole) = false
-  leaves x (Follows v e s whole) = false
-  leaves x (Finishes s) = false
+  leaves x _ = false
 
 module _ {M P W : Type 0} (g : Network M P W) where
   abbrev pub router_after : ℕ → Router M P W → Event M P W → Router M P W
@@ -140,16 +130,8 @@ module _ {M P W : Type 0} (g : Network M P W) where
   }
 
   abbrev pub TellsNoUpdate : Act M → Type 0
-  TellsNoUpdate (Moves v Dials) = Unit {0}
   TellsNoUpdate (Moves v (Tells m)) = updates g (m ∷ []) ≡ []
-  TellsNoUpdate (Moves v (Marks s)) = Unit {0}
-  TellsNoUpdate (Moves v HangsUp) = Unit {0}
-  TellsNoUpdate (Moves v (Takes x)) = Unit {0}
-  TellsNoUpdate (EndsChannel v e s) = Unit {0}
-  TellsNoUpdate (IgnoresMarker v e s) = Unit {0}
-  TellsNoUpdate (Begins s whole) = Unit {0}
-  TellsNoUpdate (Follows v e s whole) = Unit {0}
-  TellsNoUpdate (Finishes s) = Unit {0}
+  TellsNoUpdate _ = Unit {0}
 
 abbrev pub Routers : (M P W : Type 0) → Type 0
 Routers M P W = ℕ → Router M P W

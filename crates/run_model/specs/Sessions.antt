@@ -13,20 +13,16 @@ pub data SessionState : Type 0 where
 
 abbrev pub phase_in : SessionState → Phase
 phase_in Idle = Closed
-phase_in Connect = Offered
 phase_in Active = Closed
-phase_in OpenSent = Joined
-phase_in OpenConfirm = Joined
-phase_in Established = Joined
+phase_in Connect = Offered
+phase_in _ = Joined
 
 -- how many messages a session in this state has said: its OPEN, its KEEPALIVE, and more
 abbrev pub SaidIn : SessionState → ℕ → Type 0
-SaidIn Idle n = Unit {0}
-SaidIn Connect n = Unit {0}
-SaidIn Active n = Unit {0}
 SaidIn OpenSent n = 1 ≤ n
 SaidIn OpenConfirm n = 2 ≤ n
 SaidIn Established n = 2 ≤ n
+SaidIn _ n = Unit {0}
 
 -- how many messages a session in this state has used: the peer's OPEN, its KEEPALIVE, and more
 abbrev pub UsedIn : SessionState → ℕ → Type 0
@@ -138,26 +134,17 @@ MayNotify Joined ms = length ms ≤ 1
 abbrev pub MayRestart : SessionState → Type 0
 MayRestart Idle = Unit {0}
 MayRestart Active = Unit {0}
-MayRestart Connect = ⊥
-MayRestart OpenSent = ⊥
-MayRestart OpenConfirm = ⊥
-MayRestart Established = ⊥
+MayRestart _ = ⊥
 
 abbrev pub WaitsForPeer : SessionState → Type 0
 WaitsForPeer Connect = Unit {0}
 WaitsForPeer Active = Unit {0}
-WaitsForPeer Idle = ⊥
-WaitsForPeer OpenSent = ⊥
-WaitsForPeer OpenConfirm = ⊥
-WaitsForPeer Established = ⊥
+WaitsForPeer _ = ⊥
 
 abbrev pub MaySay : SessionState → Type 0
 MaySay OpenConfirm = Unit {0}
 MaySay Established = Unit {0}
-MaySay Idle = ⊥
-MaySay Connect = ⊥
-MaySay Active = ⊥
-MaySay OpenSent = ⊥
+MaySay _ = ⊥
 
 module _ {M : Type 0} where
   -- when a session's event may come: b is the peer's end

@@ -1,7 +1,7 @@
 -- Definitions that are wrong, each with a small run in which a law fails for it.
 use Rattle.std.specs.Prelude.{ℕ, ◌<◌, ◌≡◌, ◌≢◌, ◌==◌, Bool, true, false, cond, List, [], ◌∷◌, ◌++◌, Some, None}
 use mathlib.Core.List.{IsPrefix}
-use Rattle.run_model.specs.Links.{Entry, Dial, Says, Mark, Shut, End, Move, Dials, Tells, Marks, HangsUp, Takes, Ends, LinkStep, after, taking, May, opening, said, is_up, incarnation}
+use Rattle.run_model.specs.Links.{Entry, Dial, Says, Mark, Shut, End, Move, Dials, Tells, HangsUp, Takes, Ends, LinkStep, after, taking, May, opening, said, is_up, incarnation}
 use Rattle.run_model.specs.Recordings.{Recorder, Recorders, Act, Moves, EndsChannel, IgnoresMarker, Begins, Follows, Finishes, RecordingStep, with_end, recorder_after, recording, first_recorders, IsNext, MayAct, IsChannel}
 use Rattle.run_model.specs.Routes.{Network, Routers, Event, Acts, Decide, Command, NetworkStep, updates, route, IsStableAssignment, IsRunOf, reached}
 use Rattle.run_model.specs.Offers.{IsIn}
@@ -24,11 +24,8 @@ module _ {M : Type 0} where
   taking_any a (Shut e) = taking a (Shut e)
 
   abbrev pub using_any : End M → Move M → End M
-  using_any a Dials = after a Dials
-  using_any a (Tells m) = after a (Tells m)
-  using_any a (Marks s) = after a (Marks s)
-  using_any a HangsUp = after a HangsUp
   using_any a (Takes x) = taking_any a x
+  using_any a move = after a move
 
   -- runs of ends that move by another rule
   module _ (rule : End M → Move M → End M) where

@@ -45,12 +45,9 @@ LeavingForIdleHangsUp = (a : SessionView) (e : FsmEvent) → a.state ≢ Idle �
 
 -- the states from OpenConfirm on
 abbrev pub IsConfirmed : State → Type 0
-IsConfirmed Idle = ⊥
-IsConfirmed Connect = ⊥
-IsConfirmed Active = ⊥
-IsConfirmed OpenSent = ⊥
 IsConfirmed OpenConfirm = Unit {0}
 IsConfirmed Established = Unit {0}
+IsConfirmed _ = ⊥
 
 abbrev pub StaysConfirmed : SessionView → List Input → Type 0
 StaysConfirmed a [] = IsConfirmed a.state

@@ -3,7 +3,7 @@ use Rattle.std.specs.Prelude.{ℕ, ◌≡◌, List, [], ◌∷◌, All}
 use Rattle.std.specs.List.{Contains}
 use Rattle.std.specs.List.Sorted.{IsNonDecreasingBy}
 use Rattle.ranked_policy.specs.Plans.{IsNetwork, IsRouter}
-use Rattle.run_model.specs.Network.{alone, puts, takes, offers}
+use Rattle.run_model.specs.Network.{alone}
 use Rattle.run_model.specs.Journals.{IsJournal}
 use Rattle.run_model.specs.Stamps.{FitsItem, without_stamp, without_stamps}
 use Rattle.router_model.specs.Settings.{Setting}
@@ -48,13 +48,7 @@ StampsRise =
 -- an event is a command only if a chore is that command
 abbrev pub IsOrdered : List Chore → RouterEvent → Type 0
 IsOrdered chores (alone (step.Obeys c)) = Contains chores (chore.Command c)
-IsOrdered chores (alone step.Ticks) = Unit {0}
-IsOrdered chores (alone (step.Handles v)) = Unit {0}
-IsOrdered chores (alone step.Decides) = Unit {0}
-IsOrdered chores (alone (step.Advertises v)) = Unit {0}
-IsOrdered chores (puts v i) = Unit {0}
-IsOrdered chores (takes v i) = Unit {0}
-IsOrdered chores (offers made) = Unit {0}
+IsOrdered chores _ = Unit {0}
 
 -- events lead a router on, one after another; each is what its call answers, and is a command only if a chore is that
 -- command

@@ -4,14 +4,14 @@ use Rattle.std.specs.Prelude.{ℕ, ◌≡◌, ◌<◌, ◌≤◌, List, [], ◌�
 use Rattle.std.specs.List.{find}
 use Rattle.outbox.specs.Items.{next_item, octets_waiting}
 use Rattle.run_model.specs.Network as runs
-use Rattle.run_model.specs.Network.{alone, puts, takes, offers}
+use Rattle.run_model.specs.Network.{alone, puts}
 use Rattle.run_model.specs.ThroughCut.{first_part, second_part, with_offers}
 use Rattle.run_model.specs.declared.stamps.TheConstants.{GREATEST_STAMP}
 use Rattle.snap_marker.specs.Recordings.{RouterPart}
 use Rattle.router_model.specs.declared.limits.TheConstants.{OUTBOX_LIMIT}
 use Rattle.router_model.specs.Settings.{Setting, IsSetting, peers}
 use Rattle.router_model.specs.State.{Router}
-use Rattle.router_model.specs.Step.{RouterEvent, Obeys, Ticks, Handles, Decides, Advertises}
+use Rattle.router_model.specs.Step.{RouterEvent, Advertises}
 use Rattle.ranked_policy.specs.Plans.{IsNetwork}
 use Rattle.router_model.specs.Calls.{Stamped, Call, Steps, answer, has_room}
 use Rattle.router_runs.specs.Runs.{RunOrder, RunState, IsRunTo, new_logged, logged_steps, side_of}
@@ -41,12 +41,7 @@ module _ (g : Setting) (u : ℕ) (x : Router) where
   abbrev pub IsCalled : RouterEvent → Type 0
   IsCalled (puts v i) = next_item g.net.settings.cut (x.sides v).outbox ≡ Some i
   IsCalled (alone (Advertises v)) = find (has_room g u x) (peers g.net u) ≡ Some v
-  IsCalled (alone (Obeys c)) = Unit {0}
-  IsCalled (alone Ticks) = Unit {0}
-  IsCalled (alone (Handles v)) = Unit {0}
-  IsCalled (alone Decides) = Unit {0}
-  IsCalled (takes v i) = Unit {0}
-  IsCalled (offers made) = Unit {0}
+  IsCalled _ = Unit {0}
 
 abbrev pub IsCalledRun : Setting → RunState → RunOrder → RunState → Type 0
 IsCalledRun g old [] new = old ≡ new

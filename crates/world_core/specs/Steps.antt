@@ -4,7 +4,7 @@ use Rattle.ranked_policy.specs.Plans.{Plan, numbers}
 use Rattle.router_model.specs.declared.refusal.Stepped.{Stepped}
 use Rattle.router_model.specs.declared.refusal.Stepped.TheVariants as stepped
 use Rattle.router_model.specs.Settings.{Setting, ChoosesByRank, is_router, peers}
-use Rattle.router_model.specs.Calls.{Call, Obey, Tick, Put, Take, Handle, Decide, Advertise}
+use Rattle.router_model.specs.Calls.{Call, Put, Take}
 use Rattle.world_core.specs.declared.inbox.Inbox.{Inbox}
 use Rattle.world_core.specs.declared.schedule.Event.{Event}
 use Rattle.world_core.specs.declared.schedule.Event.TheVariants as schedule
@@ -36,13 +36,9 @@ StepsTo r x event y = Leaves (Answers r x event y) x y
 
 -- a call that touches no pipe
 abbrev pub IsOwn : Call → Type 0
-IsOwn (Obey c) = Unit {0}
-IsOwn Tick = Unit {0}
 IsOwn (Put v) = ⊥
 IsOwn (Take v stamp what) = ⊥
-IsOwn (Handle v) = Unit {0}
-IsOwn Decide = Unit {0}
-IsOwn Advertise = Unit {0}
+IsOwn _ = Unit {0}
 
 abbrev pub Asks : Result Stepped StepFault → WorldView → ℕ → Event → Call → WorldView → Type 0
 Asks r x u event call y =
