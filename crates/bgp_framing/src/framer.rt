@@ -55,9 +55,12 @@ impl Model for Framer {
 
     ghost Value = { Held };
 
-    ghost view = { λ framer. record { octets = slice_range framer.octets.items framer.used framer.end; room = vec_capacity framer.octets } };
+    ghost view = { λ framer.
+        record { octets = slice_range framer.octets.items framer.used framer.end; room = vec_capacity framer.octets } };
 
-    ghost invariant = { λ framer. (MOST_HELD ≤ vec_capacity framer.octets) × (framer.used ≤ framer.end) × (framer.end ≤ vec_len framer.octets) × IsFront (slice_range framer.octets.items framer.used framer.end) framer.front };
+    ghost invariant = { λ framer.
+        (MOST_HELD ≤ vec_capacity framer.octets) × (framer.used ≤ framer.end) × (framer.end ≤ vec_len framer.octets)
+        × IsFront (slice_range framer.octets.items framer.used framer.end) framer.front };
 }
 
 /// What stands in front of these octets, as a framer that holds them answers. It takes no memory.

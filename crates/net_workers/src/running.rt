@@ -116,7 +116,8 @@ where
     requires chores { All (λ e. e.worker.journal.chores.items ≡ []) workers.old.items }
     ensures many { length workers.new.items ≡ length workers.old.items }
     ensures ran { (i : ℕ) (d : _) → i < length workers.old.items → IfNone (slice_index_or workers.new.items i d).fault
-        (Ran G.given turns (slice_index_or workers.old.items i d).worker (slice_index_or workers.new.items i d).worker) }
+        (Ran G.given turns (slice_index_or workers.old.items i d).worker
+        (slice_index_or workers.new.items i d).worker) }
     ensures script { (i : ℕ) (d : _) → i < length workers.old.items
         → G.script (slice_index_or workers.new.items i d).worker.gate
         ≡ G.script (slice_index_or workers.old.items i d).worker.gate }

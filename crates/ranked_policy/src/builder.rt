@@ -40,14 +40,16 @@ impl Model for NetBuilder {
 
     ghost Value = { Plan };
 
-    ghost view = { λ b. record { settings = b.settings; routers = b.routers.items; links = b.links.items; origins = b.origins.items } };
+    ghost view = { λ b.
+        record { settings = b.settings; routers = b.routers.items; links = b.links.items; origins = b.origins.items } };
 
-    ghost invariant = { λ b. IsPlan (record { settings = b.settings; routers = b.routers.items; links = b.links.items; origins = b.origins.items }) × AreWays b.links.items b.ways };
+    ghost invariant = { λ b.
+        IsPlan (record { settings = b.settings; routers = b.routers.items; links = b.links.items; origins = b.origins.items })
+        × AreWays b.links.items b.ways };
 }
 
 impl NetBuilder {
-    /// A network without routers. It takes no memory. Refused `BadNumber` exactly where a setting is
-    /// outside its range.
+    /// A network without routers. It takes no memory. Refused `BadNumber` exactly where a setting is outside its range.
     pub fn new(alloc: Global, settings: Settings) -> Result<NetBuilder, NetError>
         ensures ok { IfOk result (λ net. net ≡ empty_plan settings) }
         ensures met { OnOk result (MeetsAll (SettingsMeet settings)) }
@@ -159,9 +161,8 @@ impl NetBuilder {
         Ok(())
     }
 
-    /// Makes the network. Refused with `Limit` if it has no router, and with `NotConnected` if
-    /// links do not lead from each router to each other one. It takes no memory. A refusal gives
-    /// the builder back.
+    /// Makes the network. Refused with `Limit` if it has no router, and with `NotConnected` if links do not lead from
+    /// each router to each other one. It takes no memory. A refusal gives the builder back.
     pub fn finish(self) -> Result<Network, (NetBuilder, NetError)>
         ensures ok { IfOk result (λ net. net ≡ self) }
         ensures network { IfOk result IsNetwork }

@@ -71,11 +71,13 @@ impl Policy for Ranked<'_> {
     ghost use Rattle.ranked_policy.specs.Laws.{listed_paths_are_an_order};
     ghost use Rattle.std.specs.Prelude.{ℕ};
 
-    ghost Permits = { λ rule path. Contains rule.paths.now path × ((v : ℕ) × (rule.origin ≡ Some v) × EndsWith path v) };
+    ghost Permits = { λ rule path. Contains rule.paths.now path
+        × ((v : ℕ) × (rule.origin ≡ Some v) × EndsWith path v) };
 
     ghost Prefers = { λ rule a b. ComesFirst rule.paths.now a b };
 
-    ghost order = { λ rule. listed_paths_are_an_order rule.paths.now (λ path. (v : ℕ) × (rule.origin ≡ Some v) × EndsWith path v) };
+    ghost order = { λ rule. listed_paths_are_an_order rule.paths.now
+        (λ path. (v : ℕ) × (rule.origin ≡ Some v) × EndsWith path v) };
 
     fn permits(&self, path: &Path) -> bool {
         is_listed(self.paths, path) && ends_at(self.origin, path.as_slice())
@@ -86,8 +88,7 @@ impl Policy for Ranked<'_> {
     }
 }
 
-/// The policy if no rule covers the prefix: every route to the origin, the shorter first, then by
-/// the numbers.
+/// The policy if no rule covers the prefix: every route to the origin, the shorter first, then by the numbers.
 #[derive(Clone, Copy, Debug)]
 pub struct Shortest {
     /// The router.

@@ -45,8 +45,7 @@ pub(crate) fn place_of_peer(peers: &[Peer], asn: Asn) -> Option<usize>
     None
 }
 
-// The words that an UPDATE announces, one for each prefix. All memory that an UPDATE needs is taken
-// here.
+// The words that an UPDATE announces, one for each prefix. All memory that an UPDATE needs is taken here.
 fn announced_words(alloc: Global, update: &Update) -> Result<Vec<Word>, RibError>
     ensures len { IfOk result (λ words. length words.items ≡ length update.now.nlri) }
     ensures same { IfOk result (λ words. All (λ word. word ≡ announced_word update.now.attrs) words.items) }
@@ -59,8 +58,7 @@ fn announced_words(alloc: Global, update: &Update) -> Result<Vec<Word>, RibError
     Ok(words)
 }
 
-// Marks a place as undecided, unless its kept path is known to stay the best when a peer says this
-// word.
+// Marks a place as undecided, unless its kept path is known to stay the best when a peer says this word.
 fn mark_heard(router: Asn, row: &Row, peer: usize, word: &Word, place: usize, dirty: &mut PlaceSet)
     requires peer { peer < length row.now.heard }
     requires place { place < MOST_PREFIXES }
@@ -127,7 +125,8 @@ pub(crate) fn hear_announced(
     requires fit { (peers : ℕ) × AreFit keys.now.keys peers rows.old.items × (peer < peers) }
     requires len { length words.items ≡ length update.now.nlri }
     requires same { All (λ one. one ≡ announced_word update.now.attrs) words.items }
-    ensures rows { rows.new.items ≡ map (hearing_all update.now.nlri peer (announced_word update.now.attrs)) rows.old.items }
+    ensures rows { rows.new.items
+        ≡ map (hearing_all update.now.nlri peer (announced_word update.now.attrs)) rows.old.items }
     ensures dirty { StaysDecided router rows.old.items rows.new.items dirty.old dirty.new }
 {
     let mut words = words;

@@ -57,7 +57,8 @@ impl PlaceSet {
     pub(crate) fn first(&self) -> Option<usize>
         ensures { MatchOption result
             ((place : ℕ) → has self.now place ≡ false)
-            (λ first. (first < MOST_PREFIXES) × (has self.now first ≡ true) × ((place : ℕ) → place < first → has self.now place ≡ false)) }
+            (λ first. (first < MOST_PREFIXES) × (has self.now first ≡ true)
+            × ((place : ℕ) → place < first → has self.now place ≡ false)) }
     {
         for (index, word) in self.words.iter().enumerate() {
             if *word != 0 {

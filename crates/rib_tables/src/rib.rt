@@ -55,7 +55,8 @@ impl<'a> Model for Rib<'a> {
 
     ghost view = { λ r. view_of r.network.now r.router r.peers.items r.rows.items };
 
-    ghost invariant = { λ r. IsRib r.network.now r.router r.peers.items r.keys.keys r.rows.items r.dirty r.waits.items };
+    ghost invariant = { λ r.
+        IsRib r.network.now r.router r.peers.items r.keys.keys r.rows.items r.dirty r.waits.items };
 }
 
 impl<'a> Rib<'a> {

@@ -37,7 +37,8 @@ impl<T> Model for PutEnd<T> {
 
     ghost view = { λ e. end_at e.seat.table_id (ruled_capacity (arc_value e.line)) (known e.seat).put };
 
-    ghost invariant = { λ e. IsPassOf (arc_value e.line) e.seat × (known e.seat ≡ log true false (known e.seat).put []) };
+    ghost invariant = { λ e. IsPassOf (arc_value e.line) e.seat
+        × (known e.seat ≡ log true false (known e.seat).put []) };
 }
 
 /// The end that takes. Contracts see which pipe it is of, how many items that holds at most, and the
@@ -59,7 +60,8 @@ impl<T> Model for TakeEnd<T> {
 
     ghost view = { λ e. end_at e.seat.table_id (ruled_capacity (arc_value e.line)) (known e.seat).taken };
 
-    ghost invariant = { λ e. IsPassOf (arc_value e.line) e.seat × (known e.seat ≡ log false true [] (known e.seat).taken) };
+    ghost invariant = { λ e. IsPassOf (arc_value e.line) e.seat
+        × (known e.seat ≡ log false true [] (known e.seat).taken) };
 }
 
 impl<T: Drop> PutEnd<T> {

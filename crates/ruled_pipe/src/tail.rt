@@ -28,9 +28,12 @@ impl<T> Model for Tail<T> {
 
     ghost Value = { Closed T };
 
-    ghost view = { λ e. closed_at e.seat.table_id (ruled_capacity (arc_value e.line)) (known e.seat).put (known e.seat).taken };
+    ghost view = { λ e.
+        closed_at e.seat.table_id (ruled_capacity (arc_value e.line)) (known e.seat).put (known e.seat).taken };
 
-    ghost invariant = { λ e. IsPassOf (arc_value e.line) e.seat × (known e.seat ≡ log true true (known e.seat).put (known e.seat).taken) × StartsWith (known e.seat).put (known e.seat).taken };
+    ghost invariant = { λ e. IsPassOf (arc_value e.line) e.seat
+        × (known e.seat ≡ log true true (known e.seat).put (known e.seat).taken)
+        × StartsWith (known e.seat).put (known e.seat).taken };
 }
 
 /// Brings the two ends of a pipe together. What was put is what was taken, followed by what is left

@@ -42,9 +42,13 @@ impl Model for Collector {
 
     ghost Value = { CollectorView };
 
-    ghost view = { λ c. record { members = c.members.items; offers = map entry_of c.offers.entries; decided = c.decided.items } };
+    ghost view = { λ c.
+        record { members = c.members.items; offers = map entry_of c.offers.entries; decided = c.decided.items } };
 
-    ghost invariant = { λ c. AreDecided (record { members = c.members.items; offers = map entry_of c.offers.entries; decided = c.decided.items }) c.decided.items × AreBooks (map member_of c.members.items) c.offers.entries };
+    ghost invariant = { λ c.
+        AreDecided (record { members = c.members.items; offers = map entry_of c.offers.entries; decided = c.decided.items })
+        c.decided.items
+        × AreBooks (map member_of c.members.items) c.offers.entries };
 }
 
 // The routers of a network with their peers, rising.
@@ -285,8 +289,7 @@ impl Collector {
         }
     }
 
-    /// How the snapshot of a number comes out, by the offers for it that are kept: those up to the
-    /// first that decides.
+    /// How the snapshot of a number comes out, by the offers for it that are kept: those up to the first that decides.
     pub fn outcome(&self, number: u32) -> Outcome
         ensures { outcome_of result
             ≡ verdict (map member_of self.now.members)
@@ -295,8 +298,7 @@ impl Collector {
         verdict(self.members.as_slice(), self.kept(number))
     }
 
-    /// What a router recorded of the snapshot of a number: its first part among the offers that are
-    /// kept.
+    /// What a router recorded of the snapshot of a number: its first part among the offers that are kept.
     pub fn part(&self, number: u32, router: Asn) -> Option<&Part>
         ensures { IsPartOf self.now number router (option_copied result) }
     {

@@ -33,8 +33,11 @@ pub fn has_offered(offers: &[Offer], router: Asn) -> bool
 /// The first recording that was lost.
 fn first_lost(offers: &[Offer]) -> Option<&Lost>
     ensures { MatchOption result
-        ((any_lost (made_in offers.now) ≡ false) × ((other : model.Outcome) → abandoned_or (made_in offers.now) other ≡ other))
-        (λ lost. (any_lost (made_in offers.now) ≡ true) × ((other : model.Outcome) → abandoned_or (made_in offers.now) other ≡ Abandoned lost.now.router lost.now.peer lost.now.epoch (cause_of lost.now.cause))) }
+        ((any_lost (made_in offers.now) ≡ false)
+        × ((other : model.Outcome) → abandoned_or (made_in offers.now) other ≡ other))
+        (λ lost. (any_lost (made_in offers.now) ≡ true)
+        × ((other : model.Outcome) → abandoned_or (made_in offers.now) other
+        ≡ Abandoned lost.now.router lost.now.peer lost.now.epoch (cause_of lost.now.cause))) }
 {
     for offer in offers {
         match offer {

@@ -26,7 +26,8 @@ fn keep_at(place: usize, k: usize, picks: &[NetItems<usize>], sets: &mut [u64]) 
     requires inside { place < length sets.old }
     requires picks { All (λ pick. (k < length pick) × (slice_index pick k < 64)) picks.now }
     ensures { (ways : List Way)
-        → ((pick : List ℕ) → Solves ways sets.old pick → Any (λ seen. slice_index seen k ≡ slice_index pick place) picks.now)
+        → ((pick : List ℕ) → Solves ways sets.old pick
+        → Any (λ seen. slice_index seen k ≡ slice_index pick place) picks.now)
         → Narrows ways sets.old sets.new }
 {
     let mine = sets[place];

@@ -25,7 +25,8 @@ impl RunGate {
     pub fn new(opening: Vec<Chore>, spacing: u32, snapshots: u32) -> RunGate
         requires { 0 < spacing }
         ensures nothing { given_by result ≡ [] }
-        ensures script { script_of result ≡ record { opening = opening.items; spacing = spacing; snapshots = snapshots } }
+        ensures script { script_of result
+            ≡ record { opening = opening.items; spacing = spacing; snapshots = snapshots } }
         ensures chores { AreChores (script_of result) (chore_at (script_of result)) }
     {
         RunGate {

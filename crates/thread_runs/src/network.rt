@@ -39,7 +39,8 @@ where
     ensures fault { IfErr result
         (FaultOf given_by script_of network.now options.now.turns (run_scripts options.now network.now)) }
     // Router by router, its script is its opening and its turns, and the least router takes the snapshots.
-    ensures script { IfOk result (λ r. map (λ w. script_of w.gate) r.workers.items ≡ run_scripts options.now network.now) }
+    ensures script { IfOk result
+        (λ r. map (λ w. script_of w.gate) r.workers.items ≡ run_scripts options.now network.now) }
     ensures ways { IfOk result (λ r. AreWays network.now r.ways.items) }
     ensures recorded { IfOk result
         (λ r. AreRecord given_by network.now options.now.turns (passed_in r.ways.items) r.workers.items r.collector) }
