@@ -45,10 +45,7 @@ pub enum ThreadTask {
 }
 
 /// Reads the input of a task that starts no thread, and writes its text; answers the status. It waits for no thread,
-/// and always returns.
-///
-/// Where memory is refused it writes `memory` alone and answers 3. It stops only where a read or a write failed, and
-/// then what was written is a beginning of the text.
+/// and always returns. It ends as [`text_engines::answer_by`] does if memory is refused, or a read or a write fails.
 pub fn run_task<S: Source, T: Sink>(
     alloc: Global,
     task: Task,
@@ -70,10 +67,7 @@ pub fn run_task<S: Source, T: Sink>(
 }
 
 /// Reads the network of a task of threads, runs it, and writes the task's text; answers the status. It waits for the
-/// threads.
-///
-/// Where memory is refused it writes `memory` alone and answers 3. It stops only where a read or a write failed, and
-/// then what was written is a beginning of the text.
+/// threads. It ends as [`text_engines::answer_by`] does if memory is refused, or a read or a write fails.
 pub fn run_thread_task<R, S, T>(
     rt: &R,
     alloc: Global,

@@ -131,7 +131,8 @@ where
     requires fresh { AllByRecursion (λ gate. G.given gate ≡ []) gates.items }
     requires many { length gates.items ≡ length network.now.routers }
     ensures ended { IfOk result (λ workers. HaveEnded G.given network.now turns workers.items) }
-    ensures script { IfOk result (λ workers. map (λ e. G.script e.worker.gate) workers.items ≡ map G.script gates.items) }
+    ensures script { IfOk result
+        (λ workers. map (λ e. G.script e.worker.gate) workers.items ≡ map G.script gates.items) }
 {
     let mut workers = new_workers(alloc, network, gates)?;
     run_all(rt, board, turns, &mut workers);
@@ -276,10 +277,8 @@ where
     ensures limits { OnOk result (AreLimits network.now limits.turns (length gates.items)) }
     ensures refused { IfErr result
         (λ why. why ≡ RunFault.BadLimits ↔ (AreLimits network.now limits.turns (length gates.items) → ⊥)) }
-    // Of some workers with these scripts: the fault is that of the least router that has one; it ended for it, and
-    // those before it did their chores.
+    // These three are as there.
     ensures fault { IfErr result (FaultOf G.given G.script network.now limits.turns (map G.script gates.items)) }
-    // Router by router, the gate that comes back has the script of the given one.
     ensures script { IfOk result (λ r. map (λ w. G.script w.gate) r.workers.items ≡ map G.script gates.items) }
     ensures ways { IfOk result (λ r. AreWays network.now r.ways.items) }
     ensures recorded { IfOk result

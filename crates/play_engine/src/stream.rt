@@ -60,7 +60,8 @@ fn network_output(alloc: Global, shown: Shown, split: &Split) -> Result<(Vec<u8>
 }
 
 impl Engine for Shown {
-    ghost gives = { λ shown text out. LinesGive (ScheduleGives (IsShown shown)) (codes "schedule") (lines_of text) out };
+    ghost gives = { λ shown text out.
+        LinesGive (ScheduleGives (IsShown shown)) (codes "schedule") (lines_of text) out };
 
     fn answer(&self, alloc: Global, text: &[u8]) -> Result<(Vec<u8>, u8), AllocError> {
         let split = split_at_section(text, b"schedule");
@@ -70,9 +71,7 @@ impl Engine for Shown {
 
 /// Reads a network and a schedule, and writes how the snapshots came out and the routes of the world that
 /// the schedule leads to, or the first line that is refused; answers the status.
-///
-/// Where memory is refused it writes `memory` alone and answers 3. It stops only where a read or a
-/// write failed, and then what was written is a beginning of the text.
+/// It ends as [`text_engines::answer_by`] does if memory is refused, or a read or a write fails.
 pub fn play_stream<S: Source, T: Sink>(
     alloc: Global,
     source: &mut S,
@@ -87,12 +86,9 @@ pub fn play_stream<S: Source, T: Sink>(
 /// Reads a network and a schedule, and writes the cut of the snapshot of this number in the world that the
 /// schedule leads to, or the first line that is refused; answers the status.
 ///
-/// Where the snapshot is settled or moving: how many events were done, and how many of them up to each
-/// router's recording; the routes that the routers recorded; and each UPDATE in flight. Else that it has
-/// no cut.
-///
-/// Where memory is refused it writes `memory` alone and answers 3. It stops only where a read or a
-/// write failed, and then what was written is a beginning of the text.
+/// Where the snapshot is settled or moving: how many events were done, and how many of them up to each router's
+/// recording; the routes that the routers recorded; and each UPDATE in flight. Else that it has no cut. It ends as
+/// [`text_engines::answer_by`] does if memory is refused, or a read or a write fails.
 pub fn cut_stream<S: Source, T: Sink>(
     alloc: Global,
     number: u32,
@@ -110,9 +106,7 @@ pub fn cut_stream<S: Source, T: Sink>(
 ///
 /// That is the state of each of its sessions, and for each prefix the path that it keeps, what each peer said last,
 /// what it makes of that, and whom it told. Where the network has no such router a refusal of line 0 is written.
-///
-/// Where memory is refused it writes `memory` alone and answers 3. It stops only where a read or a
-/// write failed, and then what was written is a beginning of the text.
+/// It ends as [`text_engines::answer_by`] does if memory is refused, or a read or a write fails.
 pub fn why_stream<S: Source, T: Sink>(
     alloc: Global,
     number: Asn,

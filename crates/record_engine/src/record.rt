@@ -85,9 +85,7 @@ where
 /// lines, the line `schedule`, and each event as an order, by its stamp, then by its router, with comments behind them
 /// of how the snapshots came out and of the routes that the routers keep in the end; or the first line that is refused,
 /// or why the run was. Where that is longer than an input may be a comment says so. Answers the status.
-///
-/// Where memory is refused it writes `memory` alone and answers 3. It stops only where a read or a
-/// write failed, and then what was written is a beginning of the text.
+/// It ends as [`text_engines::answer_by`] does if memory is refused, or a read or a write fails.
 pub fn record_stream<R, S, T>(
     rt: &R,
     alloc: Global,

@@ -116,9 +116,7 @@ where
 
 /// Reads a network, runs it in threads, and writes the routes of the least settled snapshot in which
 /// every origin originates, or `unsettled`, or the first line that is refused; answers the status.
-///
-/// Where memory is refused it writes `memory` alone and answers 3. It stops only where a read or a
-/// write failed, and then what was written is a beginning of the text.
+/// It ends as [`text_engines::answer_by`] does if memory is refused, or a read or a write fails.
 pub fn run_stream<R, S, T>(
     rt: &R,
     alloc: Global,

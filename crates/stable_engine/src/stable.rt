@@ -51,9 +51,7 @@ impl Engine for StableEngine<'_> {
 /// Reads a network, and writes all of its stable assignments, prefix by prefix; or the first line that is refused.
 /// What stands behind a line `assignment` or `schedule` is left out. It answers the status:
 /// [`UNKNOWN`](crate::status::UNKNOWN) where of a prefix a limit was met.
-///
-/// Where memory is refused it writes `memory` alone and answers 3. It stops only where a read or a
-/// write failed, and then what was written is a beginning of the text.
+/// It ends as [`text_engines::answer_by`] does if memory is refused, or a read or a write fails.
 pub fn stable_stream<S: Source, T: Sink>(
     alloc: Global,
     limits: &SearchLimits,

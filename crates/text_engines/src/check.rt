@@ -60,9 +60,7 @@ impl Engine for CheckEngine {
 
 /// Reads a network and an assignment of paths, writes whether the assignment is stable, or the first
 /// line that is refused, and answers the status.
-///
-/// Where memory is refused it writes `memory` alone and answers 3. It stops only where a read or a
-/// write failed, and then what was written is a beginning of the text.
+/// It ends as [`crate::answer_by`] does if memory is refused, or a read or a write fails.
 pub fn check_stream<S: Source, T: Sink>(
     alloc: Global,
     source: &mut S,

@@ -9,11 +9,8 @@ use crate::transfer::{InputError, want_of_memory, write_output};
 use bgp_codec::Rule;
 use std::alloc::Global;
 
-/// Reads a stream in hex, writes a line for each message, or the first fault and its NOTIFICATION,
-/// and answers the status.
-///
-/// Where memory is refused it writes `memory` alone and answers 3. It stops only where a read or a
-/// write failed, and then what was written is a beginning of the text.
+/// Reads a stream in hex, writes a line for each message, or the first fault and its NOTIFICATION, and answers the
+/// status. It ends as [`crate::answer_by`] does if memory is refused, or a read or a write fails.
 pub fn decode_stream<S: Source, T: Sink>(
     alloc: Global,
     rule: &Rule,

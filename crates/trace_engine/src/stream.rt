@@ -65,7 +65,8 @@ struct TraceEngine {
 }
 
 impl Engine for TraceEngine {
-    ghost gives = { λ engine text out. LinesGive (ScheduleTraces (network_lines text)) (codes "schedule") (lines_of text) out };
+    ghost gives = { λ engine text out.
+        LinesGive (ScheduleTraces (network_lines text)) (codes "schedule") (lines_of text) out };
 
     fn answer(&self, alloc: Global, text: &[u8]) -> Result<(Vec<u8>, u8), AllocError> {
         let split = split_at_section(text, b"schedule");
@@ -76,11 +77,8 @@ impl Engine for TraceEngine {
 /// Reads a network and a schedule, and writes the run that the schedule leads to as a schedule: the network's
 /// lines, the line `schedule`, and the order of each event that was done, with comments of what it did and of what
 /// stood for many events; or the first line that is refused. Answers the status. With `shows_octets` the comments of a
-/// put have the octets that go, in hex.
-///
-/// Where an order is refused its trace ends with a comment that says so. Where memory is refused it writes `memory`
-/// alone and answers 3. It stops only where a read or a write failed, and then what was written is a beginning of
-/// the text.
+/// put have the octets that go, in hex. Where an order is refused its trace ends with a comment that says so.
+/// It ends as [`text_engines::answer_by`] does if memory is refused, or a read or a write fails.
 pub fn trace_stream<S: Source, T: Sink>(
     alloc: Global,
     shows_octets: bool,
