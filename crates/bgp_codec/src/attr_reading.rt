@@ -1,5 +1,4 @@
-//! The reader of attributes (RFC 4271 sections 4.3 and 6.3): one after the other, each with all its
-//! checks.
+//! The reader of attributes (RFC 4271 sections 4.3 and 6.3): one after the other, each with all its checks.
 
 ghost use Rattle.std.specs.Prelude.{◌≡◌, List, true, false, IfErr, OnOk, slice_index, ◌≤◌, length};
 ghost use Rattle.bgp_codec.specs.Reading.{Gives, IsNoWant};

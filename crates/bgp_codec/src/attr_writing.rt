@@ -1,5 +1,4 @@
-//! The writer of attributes (RFC 4271 section 4.3): in rising order of code, in the one form that is
-//! written.
+//! The writer of attributes (RFC 4271 section 4.3): in rising order of code, in the one form that is written.
 
 ghost use Rattle.std.specs.Prelude.{◌≡◌, if◌then◌else◌, ℕ, List, Some, None, IfSome, nat_le, ◌+◌, ◌-◌, ◌^◌, ◌≤◌, ◌<◌, ◌++◌, ◌∷◌, [], filter, length, min, vec_len, vec_capacity};
 ghost use Rattle.std.specs.Option.{option_map};
@@ -20,8 +19,7 @@ use bgp_values::{
     PARTIAL, Width,
 };
 
-// How many octets an attribute has as it is written, with a value of `size` octets. The sum stops
-// at `usize::MAX`.
+// How many octets an attribute has as it is written, with a value of `size` octets. The sum stops at `usize::MAX`.
 fn attr_len(size: usize) -> usize
     ensures { result ≡ min (2 ^ 64 - 1) ((if nat_le 256 size then 4 else 3) + size) }
 {

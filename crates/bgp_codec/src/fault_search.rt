@@ -264,8 +264,7 @@ fn is_from(width: Width, peer: Option<Asn>, came: &Came<'_>) -> bool
     }
 }
 
-// Passes the announced prefixes. The checks in order: the mandatory attributes came, the prefixes,
-// the peer.
+// Passes the announced prefixes. The checks in order: the mandatory attributes came, the prefixes, the peer.
 fn judge_nlri<'a>(
     alloc: Global,
     rule: &Rule,

@@ -38,8 +38,7 @@ impl<T: Drop> Room<T> {
     }
 }
 
-/// A list of a message's parts, in their order. One item alone stands in the list itself and takes no
-/// memory.
+/// A list of a message's parts, in their order. One item alone stands in the list itself and takes no memory.
 #[derive(Debug, Drop)]
 pub struct Items<T> {
     room: Room<T>,

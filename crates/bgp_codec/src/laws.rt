@@ -15,8 +15,7 @@ pub fn one_message_or_fault()
     masking_clears_bits();
 }
 
-/// A message that is writable and fits 4096 octets is written as a spelling of itself, under a rule
-/// that names nobody.
+/// A message that is writable and fits 4096 octets is written as a spelling of itself, under a rule that names nobody.
 pub fn written_is_spelt()
     ensures { WrittenIsSpelt }
 {}
@@ -30,9 +29,8 @@ pub fn written_is_read()
     masking_clears_bits();
 }
 
-/// A message of a peer is written as a frame, which reads as that message under a rule that names
-/// the peer. The message has to be writable, to fit 4096 octets, and to have the peer's number or
-/// path.
+/// A message of a peer is written as a frame, which reads as that message under a rule that names the peer. The message
+/// has to be writable, to fit 4096 octets, and to have the peer's number or path.
 pub fn a_peers_writing_is_read()
     ensures { PeersWritingIsRead }
 {

@@ -36,8 +36,7 @@ pub fn notice_of(alloc: Global, fault: &Fault) -> Result<Notice, CodecError>
     })
 }
 
-// The NOTIFICATION of a body: code at 0, subcode at 1, data from 2. Data of at most sixteen octets
-// take no memory.
+// The NOTIFICATION of a body: code at 0, subcode at 1, data from 2. Data of at most sixteen octets take no memory.
 pub(crate) fn read_notice(alloc: Global, body: &[u8]) -> Result<Message, CodecError>
     requires { 2 ≤ length body.now }
     ensures { (result ≡ Ok (notice_reading body.now)) ⊎ ((result ≡ Err CodecError.Memory) × (18 < length body.now)) }

@@ -32,8 +32,7 @@ impl Octets {
         }
     }
 
-    /// A copy of the octets. It is refused only for want of memory, and never for sixteen octets or
-    /// fewer.
+    /// A copy of the octets. It is refused only for want of memory, and never for sixteen octets or fewer.
     pub fn from_slice(alloc: Global, octets: &[u8]) -> Result<Octets, AllocError>
         ensures ok { IfOk result (λ list. list ≡ octets.now) }
         ensures short { length octets.now ≤ 16 → IsOk result }

@@ -145,8 +145,7 @@ pub(crate) fn first_segment(width: Width, octets: &[u8]) -> Option<(SegmentKind,
     }
 }
 
-// The kind of the segment in front, the octets of its numbers, and what follows it. It takes no
-// memory.
+// The kind of the segment in front, the octets of its numbers, and what follows it. It takes no memory.
 pub(crate) fn segment_parts(
     alloc: Global,
     width: Width,

@@ -62,8 +62,7 @@ fn is_from(peer: Option<Asn>, attrs: &Attrs) -> bool
     }
 }
 
-// The announced prefixes. The checks in order: the mandatory attributes are there, the prefixes,
-// the peer.
+// The announced prefixes. The checks in order: the mandatory attributes are there, the prefixes, the peer.
 fn read_nlri(
     alloc: Global,
     peer: Option<Asn>,
@@ -109,9 +108,8 @@ fn read_parts(
     })
 }
 
-// The octets of the three parts of a body. The length of the withdrawn prefixes stands at 0, and
-// they stand from 2. Then come the length of the attributes, the attributes, and the announced
-// prefixes to the end. It takes no memory.
+// The octets of the three parts of a body. The length of the withdrawn prefixes stands at 0, and they stand from 2.
+// Then come the length of the attributes, the attributes, and the announced prefixes to the end. It takes no memory.
 #[tactic(auto, unfolding(crate::specs::UpdateReading::update_reading))]
 pub(crate) fn parts_of(alloc: Global, body: &[u8]) -> Result<(&[u8], &[u8], &[u8]), CodecError>
     requires { 4 ≤ length body.now }

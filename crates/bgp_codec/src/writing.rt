@@ -70,17 +70,15 @@ fn put_body(out: &mut Vec<u8>, message: &Message, rule: &Rule)
     }
 }
 
-/// How many octets [`put_message`] and [`encode`] write for a message. The sum stops at
-/// `usize::MAX`.
+/// How many octets [`put_message`] and [`encode`] write for a message. The sum stops at `usize::MAX`.
 pub fn written_len(message: &Message, width: Width) -> usize
     ensures { result ≡ min (2 ^ 64 - 1) (length (written width message.now)) }
 {
     body_len(message, width).saturating_add(HEADER_LEN)
 }
 
-/// Appends the one written spelling of a message to a vector that has room for it. It takes no
-/// memory and cannot be refused. It never lowers the capacity: if room was reserved for several
-/// messages, each can be written in turn.
+/// Appends the one written spelling of a message to a vector that has room for it. It takes no memory and cannot be
+/// refused. It never lowers the capacity: if room was reserved for several messages, each can be written in turn.
 pub fn put_message(out: &mut Vec<u8>, message: &Message, rule: &Rule)
     requires writable { IsWritable rule.now message.now }
     requires fits { length (written rule.now.width message.now) ≤ MESSAGE_LIMIT }

@@ -25,16 +25,14 @@ pub fn splits_behind_a_frame()
     header_is_its_front();
 }
 
-/// Octets that are too few for a message, or begin with a faulty header, have no frame: all of them
-/// are the rest.
+/// Octets that are too few for a message, or begin with a faulty header, have no frame: all of them are the rest.
 pub fn splits_into_nothing()
     ensures { SplitsIntoNothing }
 {
     header_is_its_front();
 }
 
-/// A rest is too short for a header, or a good header with too few octets behind it, or begins
-/// with a faulty header.
+/// A rest is too short for a header, or a good header with too few octets behind it, or begins with a faulty header.
 pub fn rest_is()
     ensures { RestIs }
 {
@@ -49,8 +47,7 @@ pub fn next_is_first()
     header_is_its_front();
 }
 
-/// A framer has one answer for the octets that it holds. After a fault it answers the same fault
-/// until `clear`.
+/// A framer has one answer for the octets that it holds. After a fault it answers the same fault until `clear`.
 pub fn next_is_one()
     ensures { OneNext }
 {

@@ -112,8 +112,7 @@ fn read_line(
 
 /// The entries of an assignment text, in the order of its lines. `before` lines stand before it.
 ///
-/// Refused for its first faulty line. Refused with `Memory` if a growth is refused; then no line so
-/// far has a fault.
+/// Refused for its first faulty line. Refused with `Memory` if a growth is refused; then no line so far has a fault.
 pub fn read_assignment(
     alloc: Global,
     text: &[u8],

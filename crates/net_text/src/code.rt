@@ -7,11 +7,10 @@ use thiserror::Error;
 
 /// What is wrong with a text, and the code that is printed for it.
 ///
-/// The first faulty line decides. On one line a wrong form comes first, then the words from left to
-/// right, then what came before, then limits on counts, then want of memory. In one word, a part
-/// that cannot be read comes first, then a number outside its limit, then a router that is not
-/// known or a prefix without an origin, then a path that is not simple. Whether a network has a
-/// router, and is connected, is judged once all its lines are good.
+/// The first faulty line decides. On one line a wrong form comes first, then the words from left to right, then what
+/// came before, then limits on counts, then want of memory. In one word, a part that cannot be read comes first, then a
+/// number outside its limit, then a router that is not known or a prefix without an origin, then a path that is not
+/// simple. Whether a network has a router, and is connected, is judged once all its lines are good.
 #[derive(Clone, Copy, Debug, PartialEq, Eq, Error)]
 pub enum Code {
     /// An unknown first word, a wrong number of words, or an octet past ASCII outside a comment.
@@ -24,9 +23,8 @@ pub enum Code {
     /// A router that no line before names.
     #[error("unknown router")]
     UnknownRouter,
-    /// A router, an identifier, a link either way round, an origin's prefix, a rule of one router
-    /// and prefix, a path in one rule, a setting, or an assignment that came before; or a link of a
-    /// router with itself.
+    /// A router, an identifier, a link either way round, an origin's prefix, a rule of one router and prefix, a path in
+    /// one rule, a setting, or an assignment that came before; or a link of a router with itself.
     #[error("repeated")]
     Repeated,
     /// Links do not lead from each router to each other one.

@@ -53,8 +53,7 @@ fn write_below_2560000(text: &mut [u8], at: usize, number: u32) -> usize
     write_last_two(text, at, number)
 }
 
-/// Writes a number at a place in decimal digits, and answers the place behind it. Twelve octets may
-/// change.
+/// Writes a number at a place in decimal digits, and answers the place behind it. Twelve octets may change.
 pub fn write_decimal(text: &mut [u8], at: usize, number: u32) -> usize
     requires { at + 12 ≤ length text.old }
     ensures end { result ≤ at + 11 }

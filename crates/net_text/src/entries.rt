@@ -33,8 +33,7 @@ fn key_of(router: Asn, prefix: &Prefix) -> Key
     }
 }
 
-/// Entries in the order of their lines. Each is found by its router and prefix, in time logarithmic
-/// in their number.
+/// Entries in the order of their lines. Each is found by its router and prefix, in time logarithmic in their number.
 #[derive(Drop)]
 pub(crate) struct Entries {
     list: Vec<Entry>,

@@ -4,14 +4,12 @@ ghost use Rattle.net_text.specs.Declaring.{NetworksHaveWhatIsNamed};
 ghost use Rattle.net_text.specs.Layout.{WordsStandBetweenBlanks, LinesEndByLineFeeds};
 ghost use Rattle.net_text.specs.Laws.{FirstFaultDecidesNetworks, FirstFaultDecidesAssignments, OneNetwork, SettingsAreNamed, HoldTimesFit, SpeltIsNotRefused, OneRefusal};
 
-/// A network text is refused at a line exactly where that line has the fault and no line before it
-/// has one.
+/// A network text is refused at a line exactly where that line has the fault and no line before it has one.
 pub fn first_fault_decides_networks()
     ensures { FirstFaultDecidesNetworks }
 {}
 
-/// An assignment text is refused at a line exactly where that line has the fault and no line before
-/// it has one.
+/// An assignment text is refused at a line exactly where that line has the fault and no line before it has one.
 pub fn first_fault_decides_assignments()
     ensures { FirstFaultDecidesAssignments }
 {}
@@ -26,8 +24,7 @@ pub fn lines_end_by_line_feeds()
     ensures { LinesEndByLineFeeds }
 {}
 
-/// The network that a text spells has the routers, the links and the origins that its lines name, and
-/// no others.
+/// The network that a text spells has the routers, the links and the origins that its lines name, and no others.
 pub fn networks_have_what_is_named()
     ensures { NetworksHaveWhatIsNamed }
 {}

@@ -27,9 +27,8 @@ fn place_from(octets: &[u8], from: usize, wanted: u8) -> usize
     at
 }
 
-// The first place of the octet `wanted`, or the length. The first two octets are looked at by
-// themselves, since many lines end there; then sixteen are compared at a time, and the last ones
-// one by one.
+// The first place of the octet `wanted`, or the length. The first two octets are looked at by themselves, since many
+// lines end there; then sixteen are compared at a time, and the last ones one by one.
 fn place_of(octets: &[u8], wanted: u8) -> usize
     ensures bound { result ≤ length octets.now }
     ensures before { (k : ℕ) → k < result → slice_index octets.now k ≢ wanted }

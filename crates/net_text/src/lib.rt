@@ -7,11 +7,10 @@
 //! the line that is one bare word. A text is refused for its first faulty line, by a [`Code`].
 //!
 //! [`message_line`] appends the line of a message, [`flight_line`] that of an UPDATE in flight, [`fault_lines`] those
-//! of a fault, [`truncated_line`] that of a rest; [`notice_line`] that of a NOTIFICATION by its parts,
-//! [`parts_line`] that of an UPDATE by the octets of its parts.
-//! [`refused_line`], [`unstable_line`] and [`stable_line`] append the lines of a check of an assignment.
-//! [`put_network`] appends the lines of a text as they were read, [`put_comments`] as comments. A refused call leaves
-//! the buffer's octets as they were.
+//! of a fault, [`truncated_line`] that of a rest; [`notice_line`] that of a NOTIFICATION by its parts, [`parts_line`]
+//! that of an UPDATE by the octets of its parts. [`refused_line`], [`unstable_line`] and [`stable_line`] append the
+//! lines of a check of an assignment. [`put_network`] appends the lines of a text as they were read, [`put_comments`]
+//! as comments. A refused call leaves the buffer's octets as they were.
 //!
 //! The definitions stand in `specs/`: `Lexing` (lines and words), `Layout` (how they are laid out), `Words` (what a word
 //! stands for and its fault), `Lines` (what a network line adds and its first fault), `Networks` and `Assignments` (whole

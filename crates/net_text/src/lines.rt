@@ -61,9 +61,8 @@ fn append(out: &mut Vec<u8>, line: &Line) -> Result<(), AllocError>
     result
 }
 
-/// Appends the line of a message (RFC 4271 section 4): its kind, then what it says. It is refused
-/// only for want of memory, and then changes nothing. A KEEPALIVE is refused only where the buffer
-/// had no room for its line.
+/// Appends the line of a message (RFC 4271 section 4): its kind, then what it says. It is refused only for want of
+/// memory, and then changes nothing. A KEEPALIVE is refused only where the buffer had no room for its line.
 #[tactic(auto, unfolding(crate::specs::Printing::message_line))]
 pub fn message_line(message: &Message, out: &mut Vec<u8>) -> Result<(), AllocError>
     ensures ok { OnOk result (out.new.items ≡ out.old.items ++ line (message_line message.now)) }

@@ -27,8 +27,7 @@ pub(crate) struct PathBrief {
     is_short: bool,
 }
 
-/// What a first reading tells of the paths of a rule, so that they need not be read for each
-/// question.
+/// What a first reading tells of the paths of a rule, so that they need not be read for each question.
 #[derive(Clone, Copy)]
 pub(crate) struct PathsBrief {
     /// How many there are.
@@ -169,8 +168,7 @@ fn are_apart_in_pairs(words: &[u8]) -> bool
     true
 }
 
-// Whether no path of a few stands twice. Paths are compared only if their digests do not tell them
-// apart.
+// Whether no path of a few stands twice. Paths are compared only if their digests do not tell them apart.
 fn are_apart(words: &[u8], brief: &PathsBrief) -> bool
     requires few { length (words_of words.now) ≤ 32 }
     requires brief { AreBrief brief.now (words_of words.now) }
@@ -186,9 +184,8 @@ fn are_apart(words: &[u8], brief: &PathsBrief) -> bool
     are_apart_in_pairs(words)
 }
 
-// Whether no path stands twice. If there are more than a rule may have, they are put in order,
-// since a comparison in pairs could take hours. Without memory for that they are compared in pairs:
-// they are few then (`make_room`).
+// Whether no path stands twice. If there are more than a rule may have, they are put in order, since a comparison in
+// pairs could take hours. Without memory for that they are compared in pairs: they are few then (`make_room`).
 pub(crate) fn are_distinct<'a>(
     words: &'a [u8],
     brief: &PathsBrief,

@@ -11,8 +11,7 @@ use std::alloc::AllocError;
 // the place behind the last.
 const PREFIX_ROOM: usize = 21;
 
-/// Writes a prefix at a place, with a space before it, and answers the place behind it. Twenty-one
-/// octets may change.
+/// Writes a prefix at a place, with a space before it, and answers the place behind it. Twenty-one octets may change.
 #[tactic(auto, unfolding(crate::specs::Printing::prefix_text))]
 pub fn write_prefix(text: &mut [u8], at: usize, prefix: &Prefix) -> usize
     requires { at + 21 ≤ length text.old }

@@ -136,8 +136,7 @@ pub(crate) fn naming(setting: Setting, named: Named) -> Named
     }
 }
 
-// How many octets AS numbers have by the settings that lines have named: two until a line says
-// four.
+// How many octets AS numbers have by the settings that lines have named: two until a line says four.
 pub(crate) fn width_named(named: Named) -> Width
     ensures { result ≡ width_named named }
 {

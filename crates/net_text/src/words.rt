@@ -124,8 +124,7 @@ pub(crate) fn is_router(routers: &[NetRouter], number: u64) -> bool
     is_without_gap(routers, number) || routers.iter().any(|router| u64::from(router.asn) == number)
 }
 
-/// The number of a router. Refused with `Unreadable`, then with `OutOfLimit`, then with
-/// `UnknownRouter`.
+/// The number of a router. Refused with `Unreadable`, then with `OutOfLimit`, then with `UnknownRouter`.
 pub fn router_word(width: Width, routers: &[NetRouter], word: &[u8]) -> Result<Asn, Code>
     ensures { result ≡ router_word width routers.now word.now }
 {
@@ -202,8 +201,7 @@ pub(crate) fn is_named(origins: &[Origin], prefix: &Prefix) -> bool
     origins.iter().any(|origin| origin.prefix.equals(prefix))
 }
 
-/// A prefix that a router originates. Refused with `BadPrefix` if it cannot be read or has no
-/// origin.
+/// A prefix that a router originates. Refused with `BadPrefix` if it cannot be read or has no origin.
 pub fn origin_word(origins: &[Origin], word: &[u8]) -> Result<Prefix, Code>
     ensures { result ≡ origin_word origins.now word.now }
 {

@@ -151,8 +151,7 @@ fn closed<R: Wait>(rt: &R, from: Asn, to: Asn, put: PutEnd<Item>, take: TakeEnd<
     }
 }
 
-/// Closes the pipes of a network: for each link, the one that leads there and the one that leads
-/// back.
+/// Closes the pipes of a network: for each link, the one that leads there and the one that leads back.
 pub(crate) fn close_all<R: Wait>(
     rt: &R,
     alloc: Global,

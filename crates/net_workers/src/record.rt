@@ -90,8 +90,7 @@ pub struct ClosedPipe {
 pub struct Journals<'a, G> {
     /// The routers, rising, each with its journal and its gate.
     pub workers: Vec<Worked<'a, G>>,
-    /// The pipes: for each link, in the order of the network, the one that leads there and the one
-    /// that leads back.
+    /// The pipes: for each link, in the order of the network, the one that leads there and the one that leads back.
     pub ways: Vec<ClosedPipe>,
     /// The collector.
     pub collector: Collector,
@@ -102,8 +101,7 @@ pub struct Journals<'a, G> {
 pub struct Record<'a, G> {
     /// The routers, rising, each with its journal and its gate.
     pub workers: Vec<Worked<'a, G>>,
-    /// The pipes: for each link, in the order of the network, the one that leads there and the one
-    /// that leads back.
+    /// The pipes: for each link, in the order of the network, the one that leads there and the one that leads back.
     pub ways: Vec<ClosedPipe>,
     /// The collector.
     pub collector: Collector,

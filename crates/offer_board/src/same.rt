@@ -195,8 +195,7 @@ fn same_part(one: &Part, other: &Part) -> bool
     same_channels(one.channels.as_slice(), other.channels.as_slice())
 }
 
-/// Whether two offers say the same: they have the same router and number, and the same part or the
-/// same loss.
+/// Whether two offers say the same: they have the same router and number, and the same part or the same loss.
 pub fn same_offer(one: &Offer, other: &Offer) -> bool
     ensures { Tells result (made_by one.now) (made_by other.now) }
 {
@@ -213,8 +212,7 @@ fn same_made(one: &Made, other: &Made) -> bool
     one.stamp == other.stamp && same_offer(&one.offer, &other.offer)
 }
 
-/// Whether the offers of a router among all that were made are these, in this order and with these
-/// stamps.
+/// Whether the offers of a router among all that were made are these, in this order and with these stamps.
 pub fn made_by_same(all: &[Made], router: Asn, own: &[Made]) -> bool
     ensures { Tells result (filter (λ o. o.router == router) (collected_in all.now)) (collected_in own.now) }
 {

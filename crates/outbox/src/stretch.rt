@@ -1,5 +1,4 @@
-//! The places of an outbox: which incarnation's octets stand where, and the control items between
-//! them.
+//! The places of an outbox: which incarnation's octets stand where, and the control items between them.
 
 ghost use Rattle.std.specs.Prelude.{◌≡◌, Some};
 ghost use Rattle.outbox.specs.Items.{item_of};

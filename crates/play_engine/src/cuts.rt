@@ -86,8 +86,7 @@ fn whole_output(
     Ok((out, DONE))
 }
 
-// Whether a snapshot that comes out in this way has a part of every router: it is settled or
-// moving.
+// Whether a snapshot that comes out in this way has a part of every router: it is settled or moving.
 fn is_whole(outcome: &Outcome) -> bool
     ensures { result ≡ is_whole (outcome_of outcome.now) }
 {

@@ -30,8 +30,7 @@ fn put_snapshot(
     }
 }
 
-/// Appends how the snapshots of these numbers came out, in their order, with the routes of each that
-/// is settled.
+/// Appends how the snapshots of these numbers came out, in their order, with the routes of each that is settled.
 pub fn put_snapshots(
     network: &Network,
     collector: &Collector,

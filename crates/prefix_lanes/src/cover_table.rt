@@ -28,8 +28,7 @@ pub enum CoverError {
     TableFull,
 }
 
-/// Prefixes, in the order in which they were pushed. The table itself has room for [`CAPACITY`] of
-/// them.
+/// Prefixes, in the order in which they were pushed. The table itself has room for [`CAPACITY`] of them.
 #[derive(Debug, Drop)]
 pub struct CoverTable {
     // The places past the count have a prefix that no call shows.
@@ -173,8 +172,7 @@ fn best_of_found(
     best
 }
 
-/// The best after the entry at this place, which begins as the prefix does: only its length is left
-/// to judge.
+/// The best after the entry at this place, which begins as the prefix does: only its length is left to judge.
 fn better_alike(
     entries: &[Prefix],
     prefix: &Prefix,

@@ -16,8 +16,7 @@ pub fn masking_clears_bits()
     ensures canonical { MaskedIsCanonical }
 {}
 
-/// A list and a prefix have one answer: the place of the longest entry that covers the prefix, or
-/// none.
+/// A list and a prefix have one answer: the place of the longest entry that covers the prefix, or none.
 pub fn the_longest_is_one()
     ensures { OneLongest }
 {}

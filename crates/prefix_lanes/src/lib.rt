@@ -3,12 +3,10 @@
 //! A prefix is a list of at most 32 bits, the first of an address (RFC 4271 section 4.3). Here it is
 //! an address whose other bits are zero, and a length, so that equal prefixes are equal values.
 //!
-//! The one contract: `Prefix::new` keeps exactly the first bits, `covers` says that one list of bits
-//! begins the other, and `CoverTable::longest` finds the longest entry that covers a prefix, the
-//! first among equals.
+//! The one contract: `Prefix::new` keeps exactly the first bits, `covers` says that one list of bits begins the other,
+//! and `CoverTable::longest` finds the longest entry that covers a prefix, the first among equals.
 //!
-//! Nothing here takes memory. Left out: other address families, and the text and wire forms of a
-//! prefix.
+//! Nothing here takes memory. Left out: other address families, and the text and wire forms of a prefix.
 #![tactic(auto)]
 
 mod cover_table;

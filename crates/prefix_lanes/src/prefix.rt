@@ -26,8 +26,7 @@ impl Model for Prefix {
 }
 
 impl Prefix {
-    /// The first `len` bits of `addr`; its other bits are cleared. `None` exactly where `len` is
-    /// above 32.
+    /// The first `len` bits of `addr`; its other bits are cleared. `None` exactly where `len` is above 32.
     pub fn new(addr: u32, len: u8) -> Option<Prefix>
         ensures valid { IsSome result ↔ (len ≤ 32) }
         ensures value { IfSome result (λ p. p ≡ record { addr = masked addr len; len = len }) }

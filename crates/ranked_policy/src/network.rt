@@ -65,8 +65,7 @@ pub struct Origin {
     pub router: Asn,
 }
 
-/// A network: it has a router, and links lead from each router to each other one. It does not
-/// change.
+/// A network: it has a router, and links lead from each router to each other one. It does not change.
 #[derive(Debug, Drop)]
 pub struct Network {
     built: NetBuilder,

@@ -32,8 +32,7 @@ impl Path {
         }
     }
 
-    /// A path of these numbers. It is refused only for want of memory, and never for eight or
-    /// fewer.
+    /// A path of these numbers. It is refused only for want of memory, and never for eight or fewer.
     pub fn from_slice(alloc: Global, numbers: &[Asn]) -> Result<Path, AllocError>
         ensures ok { IfOk result (λ path. path ≡ numbers.now) }
         ensures short { length numbers.now ≤ 8 → IsOk result }

@@ -10,8 +10,7 @@ use crate::path::Asn;
 use std::alloc::{AllocError, Global};
 use std::marker::Model;
 
-/// Each link twice, once from each of its ends. Ways are ordered by the end that they lead from,
-/// then by the other.
+/// Each link twice, once from each of its ends. Ways are ordered by the end that they lead from, then by the other.
 #[derive(Debug, Drop)]
 pub(crate) struct Ways {
     ways: Vec<Link>,

@@ -1,5 +1,4 @@
-//! Laws of the definitions of words and choices. Each is the contract of a function without work of
-//! its own.
+//! Laws of the definitions of words and choices. Each is the contract of a function without work of its own.
 
 ghost use Rattle.rib_tables.specs.Promises.{LastWordStays, LastWordGoesOn, OneLastWord, WordFollows, WordsFollow, LastIsLastMention, OneBest, BestAmongPaths, BestOverWords};
 
@@ -29,8 +28,7 @@ pub fn the_word_follows()
     ensures { WordFollows }
 {}
 
-/// The UPDATEs of a list give each prefix of the network a word one after the other, each as
-/// `the_word_follows` says.
+/// The UPDATEs of a list give each prefix of the network a word one after the other, each as `the_word_follows` says.
 pub fn the_words_follow()
     ensures { WordsFollow }
 {}
@@ -47,16 +45,14 @@ pub fn the_best_is_one()
     each_policy_is_an_order();
 }
 
-/// If the sessions over all links are Established and the words heard are the peers' paths, the
-/// best path is that of an assignment of paths: the first permitted of the paths "the router, then
-/// the path of a linked router".
+/// If the sessions over all links are Established and the words heard are the peers' paths, the best path is that of an
+/// assignment of paths: the first permitted of the paths "the router, then the path of a linked router".
 pub fn the_best_is_among_the_paths()
     ensures { BestAmongPaths }
 {}
 
-/// Whichever sessions are Established, the best path is the best over the words of the linked
-/// routers. An Established peer's word is what it said, read as a path; every other router's word
-/// is the empty path.
+/// Whichever sessions are Established, the best path is the best over the words of the linked routers. An Established
+/// peer's word is what it said, read as a path; every other router's word is the empty path.
 pub fn the_best_is_over_the_words()
     ensures { BestOverWords }
 {}

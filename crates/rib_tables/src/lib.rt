@@ -17,9 +17,9 @@
 //! A peer has a place, its index among the router's peers by rising number, and a prefix its index in
 //! `Network::origins`. The calls `.._at` take a place that was found once; others look for it.
 //!
-//! Only [`Rib::new`], [`Rib::hear`], [`Rib::hear_path_at`], [`Rib::tell_at`], [`Rib::best`] and
-//! [`Rib::decide`] take memory. Left out: sessions, attributes other than AS_PATH, and prefixes that
-//! the network does not name.
+//! Only [`Rib::new`], [`Rib::hear`], [`Rib::hear_at`], [`Rib::hear_path_at`], [`Rib::tell_at`], [`Rib::best`] and
+//! [`Rib::decide`] take memory. Left out: sessions, attributes other than AS_PATH, and prefixes that the network does
+//! not name.
 #![tactic(auto)]
 
 mod changes;

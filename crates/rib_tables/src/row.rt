@@ -83,9 +83,8 @@ fn goes_on(kept: &[Asn], router: Asn, way: Option<&[Asn]>) -> bool
     }
 }
 
-// The least place whose kept path is not the best, with the way of its best path. Each place
-// outside the set is known to have its best path. Places that turn out to have it are taken out of
-// the set. It takes no memory.
+// The least place whose kept path is not the best, with the way of its best path. Each place outside the set is known
+// to have its best path. Places that turn out to have it are taken out of the set. It takes no memory.
 pub(crate) fn first_undecided<'r>(
     router: Asn,
     peers: &[Peer],

@@ -11,9 +11,8 @@ use std::alloc::Global;
 /// What a peer says of a prefix (RFC 4271 section 4.3, AS_PATH).
 #[derive(Debug, Drop)]
 pub enum Word {
-    /// One AS_SEQUENCE: the announced path, the peer first. The empty path is the word of a
-    /// withdrawal, and of a prefix that was never mentioned. An AS_SEQUENCE without numbers, which
-    /// no message has, is the same.
+    /// One AS_SEQUENCE: the announced path, the peer first. The empty path is the word of a withdrawal, and of a prefix
+    /// that was never mentioned. An AS_SEQUENCE without numbers, which no message has, is the same.
     Sequence(Path),
     /// An AS_PATH that is not exactly one AS_SEQUENCE: a set, several segments, or none. It is a
     /// word, but gives no choice.

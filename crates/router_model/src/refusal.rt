@@ -4,9 +4,8 @@ use ranked_policy::Asn;
 use std::alloc::AllocError;
 use thiserror::Error;
 
-/// Why a call was refused; the router is as it was. The first that applies is answered, in this
-/// order. Those up to `OldSnapshot` come before the answer that there is nothing to do, the others
-/// behind it.
+/// Why a call was refused; the router is as it was. The first that applies is answered, in this order. Those up to
+/// `OldSnapshot` come before the answer that there is nothing to do, the others behind it.
 #[derive(Clone, Copy, Debug, PartialEq, Eq, Error)]
 pub enum RouterError {
     /// No link leads to that peer.

@@ -4,8 +4,7 @@ ghost use Rattle.router_runs.specs.Journals.{CausalOrdersAreRunsOfRouters, Takes
 
 use run_model::orders::{Routers, causal_orders_are_runs, takes_have_their_puts};
 
-/// The routers of this product's networks, as the laws on orders of events see them. No value of it
-/// is made.
+/// The routers of this product's networks, as the laws on orders of events see them. No value of it is made.
 pub struct NetworkRouters;
 
 impl Routers for NetworkRouters {
@@ -28,10 +27,9 @@ impl Routers for NetworkRouters {
     ghost step = { LoggedStep };
 }
 
-/// Every causal order of the journals of a network's routers is a run of the network (`runs`). What
-/// threads did, each router in one of them, is thus a run of routers, and every promise of runs
-/// holds of it. In such an order the k-th take of a direction has the item of the k-th put, and
-/// stands behind it (`items`).
+/// Every causal order of the journals of a network's routers is a run of the network (`runs`). What threads did, each
+/// router in one of them, is thus a run of routers, and every promise of runs holds of it. In such an order the k-th
+/// take of a direction has the item of the k-th put, and stands behind it (`items`).
 pub fn causal_orders_are_runs_of_routers()
     ensures runs { CausalOrdersAreRunsOfRouters }
     ensures items { TakesOfRoutersHaveTheirPuts }

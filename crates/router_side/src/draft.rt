@@ -1,5 +1,4 @@
-//! What an event will make of a side. It is worked out first: if it is refused, nothing has
-//! changed.
+//! What an event will make of a side. It is worked out first: if it is refused, nothing has changed.
 
 ghost use Rattle.std.specs.Prelude.{◌≡◌, ◌≤◌, ◌<◌, ◌+◌, ◌*◌, [], length};
 ghost use Rattle.session_fsm.specs.Table.{IsGoodEvent};

@@ -4,8 +4,7 @@ ghost use Rattle.std.specs.Prelude.{◌≡◌, ◌≤◌, ◌<◌, ◌++◌, ◌
 
 use std::marker::Model;
 
-/// Something to append towards a peer. A message stands in short: which one it is, and its
-/// incarnation.
+/// Something to append towards a peer. A message stands in short: which one it is, and its incarnation.
 #[derive(Clone, Copy, Debug, PartialEq, Eq)]
 pub enum Say {
     /// An offer to connect in this incarnation.

@@ -39,8 +39,7 @@ pub const MOST_NUMBERS: usize = 63;
 // The octets of an announcement in front of the length of its AS_PATH.
 pub(crate) const FRONT: usize = 29;
 
-// The octets of an announcement but for its path and its prefix: ORIGIN, AS_PATH with its segment,
-// NEXT_HOP.
+// The octets of an announcement but for its path and its prefix: ORIGIN, AS_PATH with its segment, NEXT_HOP.
 const FIXED_ATTRS: usize = 4 + (3 + 2) + 7;
 
 /// A path that is told of a prefix: the UPDATE that tells it, as a value of few octets.

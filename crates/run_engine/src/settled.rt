@@ -88,9 +88,8 @@ fn first_wanted(network: &Network, collector: &Collector, last: u32, demand: Dem
     None
 }
 
-/// The text printed of the snapshots from 1 to the last, by the collector of a record, and the exit
-/// status: the routes of the first that came out settled and whose parts are as demanded, or
-/// `unsettled`.
+/// The text printed of the snapshots from 1 to the last, by the collector of a record, and the exit status: the routes
+/// of the first that came out settled and whose parts are as demanded, or `unsettled`.
 ///
 /// It answers an error if memory is refused.
 pub fn settled_output(

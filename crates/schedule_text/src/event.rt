@@ -11,8 +11,7 @@ use router_model::Command;
 use std::alloc::AllocError;
 use world_core::Event;
 
-// The most octets that may change where an event is written: ten of the longest word, a number, a
-// prefix and the end.
+// The most octets that may change where an event is written: ten of the longest word, a number, a prefix and the end.
 const EVENT_ROOM: usize = 42;
 
 // Writes a word and a number at a place, and answers the place behind the line.

@@ -1,5 +1,4 @@
-//! The lines that a run is reported by. Each call appends a whole line, with its end; a refused call
-//! changes nothing.
+//! The lines that a run is reported by. Each call appends a whole line, with its end; a refused call changes nothing.
 
 ghost use Rattle.std.specs.Prelude.{◌≡◌, ◌+◌, ◌++◌, ◌<◌, length, vec_len, vec_capacity, IsOk, OnOk, OnErr};
 ghost use Rattle.snap_marker.specs.Parts.{cause_of};

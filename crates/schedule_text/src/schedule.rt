@@ -125,8 +125,7 @@ fn read_line(
 
 /// The orders of a schedule text, in the order of its lines. `before` lines stand before it.
 ///
-/// Refused for its first faulty line. Refused with `Memory` if a growth is refused; then no line so
-/// far has a fault.
+/// Refused for its first faulty line. Refused with `Memory` if a growth is refused; then no line so far has a fault.
 pub fn read_schedule(
     alloc: Global,
     text: &[u8],

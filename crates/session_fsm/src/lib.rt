@@ -1,5 +1,4 @@
-//! The session machine of BGP-4 (RFC 4271 section 8): states, events, timers, and what each event
-//! asks of the router.
+//! The session machine of BGP-4 (RFC 4271 section 8): states, events, timers, and what each event asks of the router.
 //!
 //! A session takes events and ticks, one a second, and answers actions; it sends nothing and takes
 //! no memory. The caller carries the actions out in their order, and gives it each event that comes,

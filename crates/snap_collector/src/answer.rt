@@ -33,8 +33,7 @@ pub enum CollectError {
     /// A growth was refused.
     #[error("out of memory")]
     Memory,
-    /// The offer's stamp would pass 2^62. A board answers it, whose offers have stamps; a collector never
-    /// does.
+    /// The offer's stamp would pass 2^62. A board answers it, whose offers have stamps; a collector never does.
     #[error("no stamp is left")]
     StampEnd,
 }

@@ -1,5 +1,4 @@
-//! Laws of verdicts, for every list of offers. Each is the contract of a function without work of
-//! its own.
+//! Laws of verdicts, for every list of offers. Each is the contract of a function without work of its own.
 
 ghost use Rattle.snap_collector.specs.Laws.{CollectedAreKept, KeptGoesOn, NothingIsKept, SettledHasNoneInFlight, VerdictsAreOutcomes};
 

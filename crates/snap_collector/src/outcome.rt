@@ -21,9 +21,8 @@ pub enum Outcome {
     Waiting,
     /// A recording was lost, the first of those offered.
     Abandoned(Lost),
-    /// Every router has a part, and some part has a fault. This is the first: of the least router
-    /// that has one, first its pending part, then the least channel that is not empty, then the
-    /// least peer with another incarnation.
+    /// Every router has a part, and some part has a fault. This is the first: of the least router that has one, first
+    /// its pending part, then the least channel that is not empty, then the least peer with another incarnation.
     Moving {
         /// The router.
         router: Asn,

@@ -26,8 +26,7 @@ pub struct Channel {
     pub epoch: u32,
     /// Whether the peer's marker is still to come. In a part that is offered it has come.
     pub is_open: bool,
-    /// The UPDATEs of the peer that were acted on since the recording, until its marker came, the
-    /// first first.
+    /// The UPDATEs of the peer that were acted on since the recording, until its marker came, the first first.
     pub updates: Vec<Update>,
 }
 
@@ -42,8 +41,7 @@ pub struct Part {
     pub kept: Vec<KeptPath>,
     /// The prefixes that the router originated.
     pub originated: Vec<Prefix>,
-    /// Whether some kept path was not the best of the choices, or some Established peer had not been
-    /// told of one.
+    /// Whether some kept path was not the best of the choices, or some Established peer had not been told of one.
     pub pending: bool,
     /// The links, by rising peer.
     pub channels: Vec<Channel>,

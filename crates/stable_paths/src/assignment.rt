@@ -88,8 +88,7 @@ impl Assignment {
         }
     }
 
-    /// Gives a router a path in place of what it had. It is refused only for want of memory, and
-    /// then changes nothing.
+    /// Gives a router a path in place of what it had. It is refused only for want of memory, and then changes nothing.
     pub fn set(&mut self, router: Asn, path: Path) -> Result<(), StableError>
         ensures ok { OnOk result ((u : ℕ) → path_of self.new u ≡ (if router == u then path else path_of self.old u)) }
         ensures err { OnErr result (self.new ≡ self.old) }

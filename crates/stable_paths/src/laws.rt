@@ -1,5 +1,4 @@
-//! Laws of the definitions of stable assignments. Each is the contract of a function without work
-//! of its own.
+//! Laws of the definitions of stable assignments. Each is the contract of a function without work of its own.
 
 ghost use Rattle.stable_paths.specs.ByRank.{BestByRankIsBest, EachNetworkHasItsModel};
 ghost use Rattle.stable_paths.specs.Examples.{DisagreeChooses};
@@ -27,8 +26,7 @@ pub fn stable_is_the_models<M>()
     each_policy_is_an_order();
 }
 
-/// In every network one function computes the best of each router's choices, whatever its peers
-/// say.
+/// In every network one function computes the best of each router's choices, whatever its peers say.
 pub fn best_by_rank_is_best()
     ensures { BestByRankIsBest }
 {
@@ -48,8 +46,7 @@ pub fn each_network_has_its_model<M>()
     the_best_is_the_first();
 }
 
-/// What the function of [`best_by_rank_is_best`] computes in DISAGREE (Griffin, Shepherd and
-/// Wilfong 2002).
+/// What the function of [`best_by_rank_is_best`] computes in DISAGREE (Griffin, Shepherd and Wilfong 2002).
 pub fn disagree_chooses()
     ensures { DisagreeChooses }
 {}

@@ -1,9 +1,8 @@
 //! Stable path assignments of a network, for one prefix (Griffin, Shepherd and Wilfong 2002).
 //!
-//! An [`Instance`] is a prefix of a network, an [`Assignment`] a path for each router. The one
-//! contract: [`check`] answers that the assignment is stable exactly where each router has the best
-//! of its choices, given its peers' paths; else the least router that has not, with its path and
-//! its best.
+//! An [`Instance`] is a prefix of a network, an [`Assignment`] a path for each router. The one contract: [`check`]
+//! answers that the assignment is stable exactly where each router has the best of its choices, given its peers' paths;
+//! else the least router that has not, with its path and its best.
 //!
 //! The definitions stand in `specs/`: `Stable` (choices, the best of them, stable assignments),
 //! `Judging` (what a check answers).

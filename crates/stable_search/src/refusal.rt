@@ -7,17 +7,15 @@ use thiserror::Error;
 /// Why the stable assignments were not found. What the call was lent is as it was.
 #[derive(Debug, Drop, Error)]
 pub enum SearchError {
-    /// The router may have 64 paths or more, the empty one among them. It permits each other one,
-    /// which goes on over a peer. No rule of the router covers the prefix, since a rule lists at
-    /// most 32 paths.
+    /// The router may have 64 paths or more, the empty one among them. It permits each other one, which goes on over a
+    /// peer. No rule of the router covers the prefix, since a rule lists at most 32 paths.
     #[error("router {router} may have too many paths")]
     TooManyPaths {
         /// The router.
         router: u32,
     },
-    /// These routers have more choices than were asked for. Choices are different lists of paths:
-    /// each router may have its path, and the paths at the ends of each link between two of them
-    /// fit.
+    /// These routers have more choices than were asked for. Choices are different lists of paths: each router may have
+    /// its path, and the paths at the ends of each link between two of them fit.
     #[error("too many choices")]
     TooManyChoices {
         /// The routers, by rising number.

@@ -3,8 +3,7 @@
 ghost use Rattle.std.specs.Prelude.{◌↔◌, ◌<◌, IsTrue};
 ghost use Rattle.stable_search.specs.Picks.{Has};
 
-/// What a place asks of another: for each of its values the set of the other's values that fit it, a
-/// bit for each.
+/// What a place asks of another: for each of its values the set of the other's values that fit it, a bit for each.
 #[derive(Debug, Drop)]
 pub(crate) struct Way {
     /// The place.

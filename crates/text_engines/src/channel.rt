@@ -1,8 +1,7 @@
 //! Readers and writers that remember whether they failed.
 //!
-//! The engines are written over [`Source`] and [`Sink`]: a clause can then say that an engine
-//! stopped only if a read or a write failed. [`Watched`] makes either of any reader or writer of
-//! std.
+//! The engines are written over [`Source`] and [`Sink`]: a clause can then say that an engine stopped only if a read or
+//! a write failed. [`Watched`] makes either of any reader or writer of std.
 
 ghost use Rattle.std.specs.Prelude.{◌≡◌, ℕ, ◌<◌, List, Option, Bool, true, false, length, IfOk, OnOk, OnErr};
 ghost use Rattle.std.specs.Io.{ReadsAtMost, WritesAtMost};

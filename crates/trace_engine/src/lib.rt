@@ -1,6 +1,5 @@
-//! The engine of `bgpnet trace`: it reads a network and a schedule, has a world of routers obey the orders, and
-//! writes the run as a schedule: the network's lines, then each event that was done as an order, with comments of what
-//! it did.
+//! The engine of `bgpnet trace`: it reads a network and a schedule, has a world of routers obey the orders, and writes
+//! the run as a schedule: the network's lines, then each event that was done as an order, with comments of what it did.
 //!
 //! The contract of `bgpnet trace` is that of [`trace_stream`]: what was read fixes what is written, to the octet,
 //! but for the comments behind an event. The definitions stand in `specs/`: `Tracing` (the text of

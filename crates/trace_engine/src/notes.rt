@@ -82,8 +82,7 @@ fn say_shown(shows_octets: bool, octets: &[u8], text: &mut Vec<u8>) -> Result<()
     }
 }
 
-// Says the contents of a piece: its messages, as far as they are whole, and how many octets stand
-// behind them.
+// Says the contents of a piece: its messages, as far as they are whole, and how many octets stand behind them.
 fn say_octets(
     alloc: Global,
     rule: &Rule,

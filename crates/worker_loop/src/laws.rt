@@ -18,8 +18,7 @@ pub fn acts_are_journals()
     ensures { ActsAreJournals }
 {}
 
-/// The stamps of events that lead a router on never fall; each event is of that router, and its item fits
-/// its stamp.
+/// The stamps of events that lead a router on never fall; each event is of that router, and its item fits its stamp.
 pub fn stamps_rise()
     ensures { StampsRise }
 {}

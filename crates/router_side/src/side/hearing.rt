@@ -30,8 +30,7 @@ impl SideEnd {
         }
     }
 
-    /// What stands in front of the octets held, as a message or a fault. It is refused only where
-    /// memory was.
+    /// What stands in front of the octets held, as a message or a fault. It is refused only where memory was.
     pub fn front(&self, alloc: Global, rule: &Rule) -> Result<Result<Message, Fault>, AllocError>
         requires { is_waiting (side self.now).held ≡ true }
         ensures read { IfOk result (λ read. read ≡ front rule.now (side self.now).held) }

@@ -24,8 +24,7 @@ impl SideEnd {
         self.outbox.has_item()
     }
 
-    /// A copy of the item that is put next, a piece being of at most `cut` octets. It is refused only
-    /// where memory was.
+    /// A copy of the item that is put next, a piece being of at most `cut` octets. It is refused only where memory was.
     pub fn next_item(&self, cut: usize) -> Result<Option<What>, AllocError>
         requires some { 1 ≤ cut }
         requires few { cut ≤ MESSAGE_LIMIT }
