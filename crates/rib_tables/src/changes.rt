@@ -232,7 +232,7 @@ fn wait_anew(peers: &[Peer], row: &Row, place: usize, waits: &mut [PlaceSet])
     }
 }
 
-// Does what `forget_words` does, for a `Vec`.
+// Does what `forget_words` does, for a `Vec`, whose loop is not proved by itself.
 pub(crate) fn forget_all(alloc: Global, rows: &mut Vec<Row>, dirty: &mut PlaceSet, peer: usize)
     requires few { length rows.old.items ≤ MOST_PREFIXES }
     requires words { (i : ℕ) (r : Row) → slice_get rows.old.items i ≡ Some r
