@@ -3,6 +3,7 @@
 ghost use Rattle.std.specs.Prelude.{◌≡◌, ◌<◌, ◌⊎◌, length};
 ghost use Rattle.bgp_codec.specs.Opens.{open_fault};
 ghost use Rattle.bgp_codec.specs.UpdateReading.{update_fault, attr_fault};
+ghost use Rattle.bgp_codec.specs.declared.fault.CodecError.TheVariants.{Memory};
 
 use crate::octets::Octets;
 use bgp_values::{OPEN_MESSAGE_ERROR, UPDATE_MESSAGE_ERROR};
@@ -73,9 +74,6 @@ pub(crate) fn attr_fault(alloc: Global, sub: u8, attr: &[u8]) -> CodecError
 }
 
 impl From<AllocError> for CodecError {
-    ghost use Rattle.std.specs.Prelude.{◌≡◌};
-    ghost use Rattle.bgp_codec.specs.declared.fault.CodecError.TheVariants.{Memory};
-
     ghost from_gives = { λ _ error. error ≡ Memory };
 
     fn from(_error: AllocError) -> CodecError {
@@ -84,9 +82,6 @@ impl From<AllocError> for CodecError {
 }
 
 impl<T: Drop> From<AllocFailed<T>> for CodecError {
-    ghost use Rattle.std.specs.Prelude.{◌≡◌};
-    ghost use Rattle.bgp_codec.specs.declared.fault.CodecError.TheVariants.{Memory};
-
     ghost from_gives = { λ _ error. error ≡ Memory };
 
     fn from(_error: AllocFailed<T>) -> CodecError {

@@ -1,5 +1,8 @@
 //! The record of a network's threads.
 
+ghost use Rattle.std.specs.Prelude.{◌≡◌};
+ghost use Rattle.net_workers.specs.declared.record.RunFault.TheVariants.{Memory};
+
 use offer_board::Made;
 use outbox::Item;
 use ranked_policy::Asn;
@@ -38,17 +41,6 @@ pub enum RunFault {
     /// The offers of the board are not those of the journals.
     #[error("the board differs from the journals")]
     BoardDiffers,
-}
-
-impl From<AllocError> for RunFault {
-    ghost use Rattle.std.specs.Prelude.{◌≡◌};
-    ghost use Rattle.net_workers.specs.declared.record.RunFault.TheVariants.{Memory};
-
-    ghost from_gives = { λ _ fault. fault ≡ Memory };
-
-    fn from(_error: AllocError) -> RunFault {
-        RunFault::Memory
-    }
 }
 
 /// A worker's chores, events and offers, in its order.
@@ -107,4 +99,12 @@ pub struct Record<'a, G> {
     pub collector: Collector,
     /// The events of all journals, by stamp, then by router.
     pub gathered: Vec<WorkerEvent>,
+}
+
+impl From<AllocError> for RunFault {
+    ghost from_gives = { λ _ fault. fault ≡ Memory };
+
+    fn from(_error: AllocError) -> RunFault {
+        RunFault::Memory
+    }
 }

@@ -13,14 +13,13 @@ ghost use Rattle.rib_tables.specs.Places.{has};
 ghost use Rattle.rib_tables.specs.Rows.{AreFit, AreWaiting, BestStays, IsWaiting, MarksSpeaking, StaysDecided, on, hearing, hearing_all, hearing_update, telling, keeping, originating, forgetting, clearing};
 
 use crate::place_set::PlaceSet;
-use crate::refusal::RibError;
 use crate::row::{Peer, Row, stays_best};
 use crate::word::{Word, announced};
 use bgp_codec::Update;
 use indexmap::IndexSet;
 use prefix_lanes::Prefix;
 use ranked_policy::{Asn, MOST_PREFIXES, Path};
-use std::alloc::Global;
+use std::alloc::{AllocError, Global};
 
 // The place of a prefix.
 pub(crate) fn place_of(keys: &IndexSet<Prefix>, prefix: &Prefix) -> Option<usize>
@@ -46,7 +45,7 @@ pub(crate) fn place_of_peer(peers: &[Peer], asn: Asn) -> Option<usize>
 }
 
 // The words that an UPDATE announces, one for each prefix. All memory that an UPDATE needs is taken here.
-fn announced_words(alloc: Global, update: &Update) -> Result<Vec<Word>, RibError>
+fn announced_words(alloc: Global, update: &Update) -> Result<Vec<Word>, AllocError>
     ensures len { IfOk result (λ words. length words.items ≡ length update.now.nlri) }
     ensures same { IfOk result (λ words. All (λ word. word ≡ announced_word update.now.attrs) words.items) }
 {
@@ -145,7 +144,7 @@ pub(crate) fn hear_update(
     dirty: &mut PlaceSet,
     peer: usize,
     update: &Update,
-) -> Result<(), RibError>
+) -> Result<(), AllocError>
     requires { (peers : ℕ) × AreFit keys.now.keys peers rows.old.items × (peer < peers) }
     ensures rows { OnOk result (rows.new.items ≡ map (hearing_update peer update.now) rows.old.items) }
     ensures dirty { OnOk result (StaysDecided router rows.old.items rows.new.items dirty.old dirty.new) }

@@ -27,14 +27,12 @@ pub mod laws;
 mod line;
 mod opening;
 mod place_set;
-mod refusal;
 mod rib;
 mod row;
 mod word;
 
 pub use line::Line;
 pub use place_set::PlaceSet;
-pub use refusal::RibError;
 pub use rib::Rib;
 pub use row::{Peer, Row};
 pub use word::Word;

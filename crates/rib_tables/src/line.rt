@@ -4,10 +4,9 @@ ghost use Rattle.std.specs.Prelude.{◌≡◌, ◌≢◌, ◌<◌, length, slice
 ghost use Rattle.std.specs.List.{All};
 ghost use Rattle.rib_tables.specs.Words.{nothing};
 
-use crate::refusal::RibError;
 use crate::word::Word;
 use ranked_policy::Path;
-use std::alloc::Global;
+use std::alloc::{AllocError, Global};
 use std::marker::Model;
 
 /// One word of each peer, by the places of peers.
@@ -27,7 +26,7 @@ impl Model for Line {
 
 impl Line {
     // A line in which no peer has said anything.
-    pub(crate) fn new(alloc: Global, peers: usize) -> Result<Line, RibError>
+    pub(crate) fn new(alloc: Global, peers: usize) -> Result<Line, AllocError>
         ensures len { IfOk result (λ line. length line ≡ peers) }
         ensures silent { IfOk result (λ line. All (λ word. word ≡ nothing) line) }
     {

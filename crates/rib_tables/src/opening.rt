@@ -8,15 +8,14 @@ ghost use Rattle.rib_tables.specs.Rows.{IsFresh, AreFresh};
 
 use crate::line::Line;
 use crate::place_set::PlaceSet;
-use crate::refusal::RibError;
 use crate::row::{Peer, Row};
 use indexmap::IndexSet;
 use prefix_lanes::Prefix;
 use ranked_policy::{Asn, Network, Origin, Path, PolicyTable};
-use std::alloc::Global;
+use std::alloc::{AllocError, Global};
 
 // The prefixes, by their places.
-pub(crate) fn keys_of(alloc: Global, origins: &[Origin]) -> Result<IndexSet<Prefix>, RibError>
+pub(crate) fn keys_of(alloc: Global, origins: &[Origin]) -> Result<IndexSet<Prefix>, AllocError>
     requires { AllPairs (λ origin later. IsBefore origin.prefix later.prefix) origins.now }
     ensures { IfOk result (λ keys. keys.keys ≡ map (λ origin. origin.prefix) origins.now) }
 {
@@ -28,7 +27,7 @@ pub(crate) fn keys_of(alloc: Global, origins: &[Origin]) -> Result<IndexSet<Pref
 }
 
 // The peers with these numbers, none of which is Established.
-pub(crate) fn peers_down(alloc: Global, numbers: &[Asn]) -> Result<Vec<Peer>, RibError>
+pub(crate) fn peers_down(alloc: Global, numbers: &[Asn]) -> Result<Vec<Peer>, AllocError>
     ensures { IfOk result (λ peers. peers.items ≡ map (λ number. record { asn = number; up = false }) numbers.now) }
 {
     let peers = numbers
@@ -42,7 +41,7 @@ pub(crate) fn peers_down(alloc: Global, numbers: &[Asn]) -> Result<Vec<Peer>, Ri
 }
 
 // An empty set for each peer: none waits for anything.
-pub(crate) fn no_waits(alloc: Global, peers: usize) -> Result<Vec<PlaceSet>, RibError>
+pub(crate) fn no_waits(alloc: Global, peers: usize) -> Result<Vec<PlaceSet>, AllocError>
     ensures len { IfOk result (λ waits. length waits.items ≡ peers) }
     ensures none { IfOk result (λ waits. All (λ waiting. (place : ℕ) → has waiting place ≡ false) waits.items) }
 {
@@ -60,7 +59,7 @@ fn new_row<'a>(
     table: &PolicyTable<'a>,
     origin: &Origin,
     peers: usize,
-) -> Result<Row<'a>, RibError>
+) -> Result<Row<'a>, AllocError>
     ensures { IfOk result (IsFresh network.now.origins table.now peers origin.now) }
 {
     let router = table.router();
@@ -81,7 +80,7 @@ pub(crate) fn rows_of<'a>(
     network: &'a Network,
     table: &PolicyTable<'a>,
     peers: usize,
-) -> Result<Vec<Row<'a>>, RibError>
+) -> Result<Vec<Row<'a>>, AllocError>
     ensures { IfOk result (λ rows. AreFresh network.now.origins table.now peers network.now.origins rows.items) }
 {
     let origins = network.origins();

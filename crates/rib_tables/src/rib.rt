@@ -18,7 +18,6 @@ use crate::changes::{
 };
 use crate::opening::{keys_of, no_waits, peers_down, rows_of};
 use crate::place_set::PlaceSet;
-use crate::refusal::RibError;
 use crate::row::{Peer, Row, best_way, first_undecided, path_along};
 use crate::word::Word;
 use bgp_codec::Update;
@@ -26,7 +25,7 @@ use indexmap::IndexSet;
 use prefix_lanes::Prefix;
 use ranked_policy::laws::each_policy_is_an_order;
 use ranked_policy::{Asn, Network, Path};
-use std::alloc::Global;
+use std::alloc::{AllocError, Global};
 use std::marker::Model;
 
 /// The routing tables of one router: its Adj-RIBs-In, its Loc-RIB and its Adj-RIBs-Out (RFC 4271
@@ -61,8 +60,8 @@ impl<'a> Model for Rib<'a> {
 
 impl<'a> Rib<'a> {
     /// The tables of a router of the network, as it starts: nothing is heard, sent, originated or kept, and no session
-    /// is Established. Refused with [`RibError::Memory`] if a growth is refused.
-    pub fn new(alloc: Global, network: &'a Network, router: Asn) -> Result<Rib<'a>, RibError>
+    /// is Established. Refused only for want of memory.
+    pub fn new(alloc: Global, network: &'a Network, router: Asn) -> Result<Rib<'a>, AllocError>
         requires { IsRouter network.now.routers router }
         ensures { IfOk result (IsNew network.now router) }
     {
@@ -173,9 +172,9 @@ impl<'a> Rib<'a> {
     }
 
     /// Takes an UPDATE of a peer (RFC 4271 sections 3.1 and 4.3). Each prefix of the network that the UPDATE mentions
-    /// gets the word that it says; an announcement wins over a withdrawal. Nothing else changes. Refused with
-    /// [`RibError::Memory`] if a growth is refused, and then all is as it was.
-    pub fn hear(&mut self, peer: Asn, update: &Update) -> Result<(), RibError>
+    /// gets the word that it says; an announcement wins over a withdrawal. Nothing else changes. Refused only for want of
+    /// memory, and then all is as it was.
+    pub fn hear(&mut self, peer: Asn, update: &Update) -> Result<(), AllocError>
         requires { Linked self.old.net.links self.old.router peer }
         ensures ok { OnOk result (HearsUpdate self.old self.new peer update.now) }
         ensures err { OnErr result (self.new ≡ self.old) }
@@ -186,7 +185,7 @@ impl<'a> Rib<'a> {
 
     /// Does what [`Rib::hear`] does, and is refused as it is, for the peer at a place among the router's peers, by
     /// rising number.
-    pub fn hear_at(&mut self, place: usize, peer: Asn, update: &Update) -> Result<(), RibError>
+    pub fn hear_at(&mut self, place: usize, peer: Asn, update: &Update) -> Result<(), AllocError>
         requires stands { slice_get (peers self.old.net self.old.router) place ≡ Some peer }
         ensures ok { OnOk result (HearsUpdate self.old self.new peer update.now) }
         ensures err { OnErr result (self.new ≡ self.old) }
@@ -199,15 +198,15 @@ impl<'a> Rib<'a> {
     }
 
     /// Takes an UPDATE that tells a path of one prefix, as [`Rib::hear`] does, of the peer at a place among the router's
-    /// peers, by rising number; the empty path is a withdrawal. Refused with [`RibError::Memory`] if a growth is
-    /// refused, and then all is as it was.
+    /// peers, by rising number; the empty path is a withdrawal. Refused only for want of memory, and then all is as it
+    /// was.
     pub fn hear_path_at(
         &mut self,
         place: usize,
         peer: Asn,
         prefix: &Prefix,
         path: &[Asn],
-    ) -> Result<(), RibError>
+    ) -> Result<(), AllocError>
         requires stands { slice_get (peers self.old.net self.old.router) place ≡ Some peer }
         ensures ok { OnOk result
             ((u : updates.Update) → TellsPath u prefix.now path.now → HearsUpdate self.old self.new peer u) }
@@ -222,15 +221,14 @@ impl<'a> Rib<'a> {
     }
 
     /// Records that the peer at a place among the router's peers, by rising number, was told the kept path of the prefix
-    /// at the place `at` of [`Network::origins`]. Refused with [`RibError::Memory`] if a growth is refused, and then all
-    /// is as it was.
+    /// at the place `at` of [`Network::origins`]. Refused only for want of memory, and then all is as it was.
     pub fn tell_at(
         &mut self,
         place: usize,
         peer: Asn,
         at: usize,
         prefix: &Prefix,
-    ) -> Result<(), RibError>
+    ) -> Result<(), AllocError>
         requires stands { slice_get (peers self.old.net self.old.router) place ≡ Some peer }
         requires named { slice_get (map (λ origin. origin.prefix) self.old.net.origins) at ≡ Some prefix.now }
         ensures ok { OnOk result (TellsKept self.old self.new peer prefix.now) }
@@ -325,14 +323,14 @@ impl<'a> Rib<'a> {
     /// The best of the router's choices for a prefix of the network (RFC 4271 section 9.1.2). It is the first
     /// permitted, in the order of the router's policy, of the paths "the router, then what an Established peer said",
     /// else the empty path. At the prefix's origin it is the router alone while it originates the prefix, else the
-    /// empty path. Refused with [`RibError::Memory`] if a growth is refused.
-    pub fn best(&self, alloc: Global, prefix: &Prefix) -> Result<Path, RibError>
+    /// empty path. Refused only for want of memory.
+    pub fn best(&self, alloc: Global, prefix: &Prefix) -> Result<Path, AllocError>
         requires { IsNamed self.now.net.origins prefix.now }
         ensures { IfOk result (IsBest (sources_of self.now) prefix.now) }
     {
         let place = place_of(&self.keys, prefix).unwrap();
         let way = best_way(self.router, self.peers.as_slice(), &self.rows[place]);
-        Ok(path_along(alloc, self.router, way)?)
+        path_along(alloc, self.router, way)
     }
 
     /// The prefix that [`Rib::decide`] decides next: the least of the network, by address and then by length, whose
@@ -351,9 +349,9 @@ impl<'a> Rib<'a> {
 
     /// Decides one prefix (RFC 4271 section 9.1): the least of the network, by address and then by length, whose kept
     /// path is not the best. The prefix gets its best path, and is answered. `None` exactly where each kept path is the
-    /// best, and then nothing changes. Refused with [`RibError::Memory`] if a growth is refused: then some kept path is
-    /// not the best, and all is as it was.
-    pub fn decide(&mut self, alloc: Global) -> Result<Option<Prefix>, RibError>
+    /// best, and then nothing changes. Refused only for want of memory: then some kept path is not the best, and all is
+    /// as it was.
+    pub fn decide(&mut self, alloc: Global) -> Result<Option<Prefix>, AllocError>
         ensures least { IfOk result
             (λ found. MatchOption found (HoldsOfAll self.old.net.origins (IsSettled self.old))
             (IsLeastWithout self.old.net.origins (IsSettled self.old))) }

@@ -3,10 +3,9 @@
 ghost use Rattle.std.specs.Prelude.{◌≡◌, ◌↔◌, [], IsTrue, IfOk, MatchOption};
 ghost use Rattle.rib_tables.specs.Words.{announced_word, segments_word, nothing, path_in};
 
-use crate::refusal::RibError;
 use bgp_codec::{Attrs, Segment, SegmentKind};
 use ranked_policy::{Asn, Path, is_same_path};
-use std::alloc::Global;
+use std::alloc::{AllocError, Global};
 
 /// What a peer says of a prefix (RFC 4271 section 4.3, AS_PATH).
 #[derive(Debug, Drop)]
@@ -63,7 +62,7 @@ fn sequence_of(segments: &[Segment]) -> Option<&[Asn]>
 }
 
 // The word of these attributes for the prefixes that are announced with them.
-pub(crate) fn announced(alloc: Global, attrs: &Attrs) -> Result<Word, RibError>
+pub(crate) fn announced(alloc: Global, attrs: &Attrs) -> Result<Word, AllocError>
     ensures { IfOk result (λ word. word ≡ announced_word attrs.now) }
 {
     let Some(segments) = &attrs.path else {

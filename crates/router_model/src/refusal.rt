@@ -1,5 +1,8 @@
 //! Why a router refuses a call, and what a step answers.
 
+ghost use Rattle.std.specs.Prelude.{◌≡◌};
+ghost use Rattle.router_model.specs.declared.refusal.RouterError.TheVariants.{Memory};
+
 use ranked_policy::Asn;
 use std::alloc::AllocError;
 use thiserror::Error;
@@ -43,17 +46,6 @@ pub enum RouterError {
     Memory,
 }
 
-impl From<AllocError> for RouterError {
-    ghost use Rattle.std.specs.Prelude.{◌≡◌};
-    ghost use Rattle.router_model.specs.declared.refusal.RouterError.TheVariants.{Memory};
-
-    ghost from_gives = { λ _ error. error ≡ Memory };
-
-    fn from(_error: AllocError) -> RouterError {
-        RouterError::Memory
-    }
-}
-
 /// What a step that was not refused answers.
 #[derive(Clone, Copy, Debug, PartialEq, Eq)]
 pub enum Stepped {
@@ -61,4 +53,12 @@ pub enum Stepped {
     Did,
     /// There was nothing to do; nothing changed.
     Nothing,
+}
+
+impl From<AllocError> for RouterError {
+    ghost from_gives = { λ _ error. error ≡ Memory };
+
+    fn from(_error: AllocError) -> RouterError {
+        RouterError::Memory
+    }
 }

@@ -1,5 +1,8 @@
 //! What a collector answers to an offer.
 
+ghost use Rattle.std.specs.Prelude.{◌≡◌};
+ghost use Rattle.snap_collector.specs.declared.answer.CollectError.TheVariants.{Memory};
+
 use ranked_policy::Asn;
 use std::alloc::AllocError;
 use thiserror::Error;
@@ -39,9 +42,6 @@ pub enum CollectError {
 }
 
 impl From<AllocError> for CollectError {
-    ghost use Rattle.std.specs.Prelude.{◌≡◌};
-    ghost use Rattle.snap_collector.specs.declared.answer.CollectError.TheVariants.{Memory};
-
     ghost from_gives = { λ _ error. error ≡ Memory };
 
     fn from(_error: AllocError) -> CollectError {

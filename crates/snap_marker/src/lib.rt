@@ -10,8 +10,6 @@ mod copying;
 mod links;
 mod mark_state;
 mod part;
-mod refusal;
 
 pub use mark_state::MarkState;
 pub use part::{Cause, Channel, KeptPath, Lost, Offer, Part};
-pub use refusal::MarkError;

@@ -11,10 +11,9 @@ use crate::links::{
     waits_for_marker,
 };
 use crate::part::{Cause, Lost, Offer, Part};
-use crate::refusal::MarkError;
 use bgp_codec::Update;
 use ranked_policy::Asn;
-use std::alloc::Global;
+use std::alloc::{AllocError, Global};
 use std::collections::VecDeque;
 use std::marker::Model;
 
@@ -153,9 +152,9 @@ impl MarkState {
     /// Records a snapshot, whose number is that of the part. The part holds the router's state and its links; its
     /// channels are open, but for the one over which the marker came. The unfinished recording is superseded: it is
     /// lost by the first of the part's peers whose marker it misses. If a peer is `down`, not Established, the new
-    /// recording is lost at once; else it goes on until no channel is open. Refused with [`MarkError::Memory`] if a
-    /// growth is refused, and then all is as it was.
-    pub fn begin(&mut self, part: Part, down: Option<Asn>) -> Result<(), MarkError>
+    /// recording is lost at once; else it goes on until no channel is open. Refused only for want of memory, and then all
+    /// is as it was.
+    pub fn begin(&mut self, part: Part, down: Option<Asn>) -> Result<(), AllocError>
         ensures ok { OnOk result
             (snapshots_of self.new
             ≡ begun_at (peers_of part.channels.items) down (recording_of part) (snapshots_of self.old)) }
@@ -220,13 +219,13 @@ impl MarkState {
     }
 
     /// A copy of an UPDATE for the channel of a peer, and room for it there, if that is being recorded; else `None`.
-    /// Nothing is recorded yet. Refused with [`MarkError::Memory`] if a growth is refused.
+    /// Nothing is recorded yet. Refused only for want of memory.
     pub fn copy_update(
         &mut self,
         alloc: Global,
         peer: Asn,
         update: &Update,
-    ) -> Result<Option<Update>, MarkError>
+    ) -> Result<Option<Update>, AllocError>
         ensures copy { IfOk result (λ copy. copy ≡ copy_for self.new.unfinished peer update.now) }
         ensures room { OnOk result (HasRoom self.new.unfinished peer) }
         ensures state { snapshots_of self.new ≡ snapshots_of self.old }

@@ -6,9 +6,8 @@ ghost use Rattle.stable_paths.specs.declared.assignment.Assigned.{Assigned};
 ghost use Rattle.stable_paths.specs.Stable.{path_of};
 ghost use Rattle.stable_paths.specs.Rising.{Rise, StandsAt, BelongsAt};
 
-use crate::refusal::StableError;
 use ranked_policy::{Asn, Path};
-use std::alloc::Global;
+use std::alloc::{AllocError, Global};
 use std::marker::Model;
 
 /// A router and its path.
@@ -89,10 +88,9 @@ impl Assignment {
     }
 
     /// Gives a router a path in place of what it had. It is refused only for want of memory, and then changes nothing.
-    pub fn set(&mut self, router: Asn, path: Path) -> Result<(), StableError>
+    pub fn set(&mut self, router: Asn, path: Path) -> Result<(), AllocError>
         ensures ok { OnOk result ((u : ℕ) → path_of self.new u ≡ (if router == u then path else path_of self.old u)) }
         ensures err { OnErr result (self.new ≡ self.old) }
-        ensures memory { IfErr result (λ e. e ≡ StableError.Memory) }
     {
         match place_of(self.paths.as_slice(), router) {
             Ok(place) => self.paths[place] = Assigned { router, path },

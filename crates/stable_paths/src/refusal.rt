@@ -1,6 +1,9 @@
 //! Why a call refuses.
 
-use std::alloc::{AllocError, AllocFailed};
+ghost use Rattle.std.specs.Prelude.{◌≡◌};
+ghost use Rattle.stable_paths.specs.declared.refusal.StableError.TheVariants.{Memory};
+
+use std::alloc::AllocError;
 use thiserror::Error;
 
 /// Why an assignment was not judged, or not changed. What the call was lent is as it was.
@@ -18,23 +21,9 @@ pub enum StableError {
 }
 
 impl From<AllocError> for StableError {
-    ghost use Rattle.std.specs.Prelude.{◌≡◌};
-    ghost use Rattle.stable_paths.specs.declared.refusal.StableError.TheVariants.{Memory};
-
     ghost from_gives = { λ _ error. error ≡ Memory };
 
     fn from(_error: AllocError) -> StableError {
-        StableError::Memory
-    }
-}
-
-impl<T: Drop> From<AllocFailed<T>> for StableError {
-    ghost use Rattle.std.specs.Prelude.{◌≡◌};
-    ghost use Rattle.stable_paths.specs.declared.refusal.StableError.TheVariants.{Memory};
-
-    ghost from_gives = { λ _ error. error ≡ Memory };
-
-    fn from(_error: AllocFailed<T>) -> StableError {
         StableError::Memory
     }
 }

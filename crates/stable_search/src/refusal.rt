@@ -1,5 +1,8 @@
 //! Why a search refuses.
 
+ghost use Rattle.std.specs.Prelude.{◌≡◌};
+ghost use Rattle.stable_search.specs.declared.refusal.SearchError.TheVariants.{Memory};
+
 use ranked_policy::{Asn, NetItems};
 use std::alloc::{AllocError, AllocFailed};
 use thiserror::Error;
@@ -33,9 +36,6 @@ pub enum SearchError {
 }
 
 impl From<AllocError> for SearchError {
-    ghost use Rattle.std.specs.Prelude.{◌≡◌};
-    ghost use Rattle.stable_search.specs.declared.refusal.SearchError.TheVariants.{Memory};
-
     ghost from_gives = { λ _ error. error ≡ Memory };
 
     fn from(_error: AllocError) -> SearchError {
@@ -44,9 +44,6 @@ impl From<AllocError> for SearchError {
 }
 
 impl<T: Drop> From<AllocFailed<T>> for SearchError {
-    ghost use Rattle.std.specs.Prelude.{◌≡◌};
-    ghost use Rattle.stable_search.specs.declared.refusal.SearchError.TheVariants.{Memory};
-
     ghost from_gives = { λ _ error. error ≡ Memory };
 
     fn from(_error: AllocFailed<T>) -> SearchError {

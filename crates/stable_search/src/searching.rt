@@ -31,8 +31,10 @@ fn add_fitting(
     if found.len() >= most {
         return Err(Stop::TooManyChoices);
     }
-    found.push(pick)?;
-    Ok(())
+    match found.push(pick) {
+        Ok(()) => Ok(()),
+        Err(_) => Err(Stop::Memory),
+    }
 }
 
 // Narrows the sets, of which the marked ones changed. If they are narrow enough then, adds their picks that solve; else

@@ -1,6 +1,9 @@
 //! Why the search of a part stops.
 
-use std::alloc::{AllocError, AllocFailed};
+ghost use Rattle.std.specs.Prelude.{◌≡◌};
+ghost use Rattle.stable_search.specs.declared.stop.Stop.TheVariants.{Memory};
+
+use std::alloc::AllocError;
 
 /// Why the search of a part stopped.
 #[derive(Clone, Copy, Debug)]
@@ -14,23 +17,9 @@ pub(crate) enum Stop {
 }
 
 impl From<AllocError> for Stop {
-    ghost use Rattle.std.specs.Prelude.{◌≡◌};
-    ghost use Rattle.stable_search.specs.declared.stop.Stop.TheVariants.{Memory};
-
     ghost from_gives = { λ _ stop. stop ≡ Memory };
 
     fn from(_error: AllocError) -> Stop {
-        Stop::Memory
-    }
-}
-
-impl<T: Drop> From<AllocFailed<T>> for Stop {
-    ghost use Rattle.std.specs.Prelude.{◌≡◌};
-    ghost use Rattle.stable_search.specs.declared.stop.Stop.TheVariants.{Memory};
-
-    ghost from_gives = { λ _ stop. stop ≡ Memory };
-
-    fn from(_error: AllocFailed<T>) -> Stop {
         Stop::Memory
     }
 }

@@ -81,10 +81,7 @@ fn give(alloc: Global, assignment: &mut Assignment, entry: &Entry) -> Result<(),
         → path_of assignment.new u ≡ (if entry.now.router == u then entry.now.path else path_of assignment.old u)) }
 {
     let path = Path::from_slice(alloc, entry.path.as_slice())?;
-    match assignment.set(entry.router, path) {
-        Ok(()) => Ok(()),
-        Err(_) => Err(AllocError),
-    }
+    assignment.set(entry.router, path)
 }
 
 // `count` assignments of no path.

@@ -8,6 +8,7 @@ mod pipes;
 
 ghost use Rattle.std.specs.Prelude.{◌≡◌, ◌<◌, ◌++◌, ◌∷◌, [], vec_len, vec_capacity};
 ghost use Rattle.worker_loop.specs.Whole.{entry, passing};
+ghost use Rattle.worker_loop.specs.declared.worker.WorkerFault.TheVariants.{Memory};
 
 use crate::chore::Chore;
 use crate::journal::{Journal, WorkerEvent};
@@ -29,17 +30,6 @@ pub enum WorkerFault {
     /// Its router had no stamp or no incarnation left, or its offer was refused.
     #[error("refused")]
     Refused,
-}
-
-impl From<AllocError> for WorkerFault {
-    ghost use Rattle.std.specs.Prelude.{◌≡◌};
-    ghost use Rattle.worker_loop.specs.declared.worker.WorkerFault.TheVariants.{Memory};
-
-    ghost from_gives = { λ _ fault. fault ≡ Memory };
-
-    fn from(_error: AllocError) -> WorkerFault {
-        WorkerFault::Memory
-    }
 }
 
 /// A router, with the pipes, the desk, the gate and the journal of its worker.
@@ -121,5 +111,13 @@ impl<'a, L: Pipes, D: Desk, G: Gate> Worker<'a, L, D, G> {
             given += self.pass(passes, given, turns - given);
         }
         Ok(())
+    }
+}
+
+impl From<AllocError> for WorkerFault {
+    ghost from_gives = { λ _ fault. fault ≡ Memory };
+
+    fn from(_error: AllocError) -> WorkerFault {
+        WorkerFault::Memory
     }
 }

@@ -2,6 +2,7 @@
 
 ghost use Rattle.std.specs.Prelude.{◌≡◌, ◌<◌, ◌++◌, ◌∷◌, [], vec_len, vec_capacity};
 ghost use Rattle.world_core.specs.Events.{router_of, peer_of};
+ghost use Rattle.world_core.specs.declared.schedule.StepFault.TheVariants.{Memory};
 
 use ranked_policy::Asn;
 use router_model::{Command, RouterError};
@@ -92,17 +93,6 @@ pub enum StepFault {
     Memory,
 }
 
-impl From<AllocError> for StepFault {
-    ghost use Rattle.std.specs.Prelude.{◌≡◌};
-    ghost use Rattle.world_core.specs.declared.schedule.StepFault.TheVariants.{Memory};
-
-    ghost from_gives = { λ _ fault. fault ≡ Memory };
-
-    fn from(_error: AllocError) -> StepFault {
-        StepFault::Memory
-    }
-}
-
 /// Why a schedule was not played to its end.
 #[derive(Clone, Copy, Debug, PartialEq, Eq)]
 pub struct PlayFault {
@@ -119,4 +109,12 @@ pub(crate) fn join(run: &mut Vec<Event>, event: &Event)
 {
     // as a slice of one: rattle has no proof of a caller that gives a copy of an event to `push_reserved`
     run.extend_from_slice(from_ref(event)).unwrap();
+}
+
+impl From<AllocError> for StepFault {
+    ghost from_gives = { λ _ fault. fault ≡ Memory };
+
+    fn from(_error: AllocError) -> StepFault {
+        StepFault::Memory
+    }
 }

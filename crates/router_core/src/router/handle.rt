@@ -48,10 +48,7 @@ fn copy_for(
         return Ok(None);
     }
     match given {
-        Brought::Update(update) => match marks.copy_update(alloc, peer, update) {
-            Ok(copy) => Ok(copy),
-            Err(_) => Err(AllocError),
-        },
+        Brought::Update(update) => marks.copy_update(alloc, peer, update),
         Brought::Nothing | Brought::Fault(_) => Ok(None),
     }
 }
@@ -72,10 +69,7 @@ fn hear(
         return Ok(());
     }
     match given {
-        Brought::Update(update) => match tables.hear_at(at, peer, update) {
-            Ok(()) => Ok(()),
-            Err(_) => Err(AllocError),
-        },
+        Brought::Update(update) => tables.hear_at(at, peer, update),
         Brought::Nothing | Brought::Fault(_) => Ok(()),
     }
 }

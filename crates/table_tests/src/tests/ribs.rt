@@ -12,7 +12,7 @@ use rib_tables::laws::{
     the_last_word_goes_on, the_last_word_is_one, the_last_word_stays, the_word_follows,
     the_words_follow, what_follows_is_the_last_mention,
 };
-use rib_tables::{Rib, RibError, Word};
+use rib_tables::{Rib, Word};
 use std::alloc::{AllocError, Global};
 use std::process::Abort;
 use std::test::Fail;
@@ -343,7 +343,7 @@ fn clears(rib: &mut Rib) -> bool {
     true
 }
 
-fn decided(alloc: Global, rib: &mut Rib) -> Result<Option<Prefix>, RibError> {
+fn decided(alloc: Global, rib: &mut Rib) -> Result<Option<Prefix>, AllocError> {
     rib.decide(alloc)
 }
 
