@@ -1,9 +1,9 @@
 //! The laws of runs of a network of routers. Each is the contract of a function with no work of its own.
 
 ghost use Rattle.bgp_codec.specs.Header.{IsFrame};
-ghost use Rattle.router_runs.specs.LawsBelow.{LawsBelow};
 ghost use Rattle.router_runs.specs.Acts.{QuietStepsAreActs};
 ghost use Rattle.router_runs.specs.Existence.{EachNetworkHasASetting};
+ghost use Rattle.router_runs.specs.LawsBelow.{LawsBelow};
 ghost use Rattle.router_runs.specs.Promises.{NothingIsActedOnAfterTheClose, UpdatesPassInOrder};
 ghost use Rattle.router_runs.specs.Said.{RunsKeep, SaidIsGood};
 ghost use Rattle.router_runs.specs.Snapshots.{CloseLosesTheRecording};

@@ -3,16 +3,16 @@
 //! and the next octet tell (`announcement_start`). All others are stored whole.
 
 ghost use Rattle.std.specs.Prelude.{ℕ, List, ◌≡◌, ◌+◌, ◌≤◌, ◌∷◌, ◌++◌, ◌↔◌, [], true, length, get_or, Ok, IfOk, OnOk, IsTrue, vec_len, vec_capacity};
+ghost use Rattle.bgp_codec.specs.Faults.{reading};
+ghost use Rattle.bgp_codec.specs.Header.{IsFrame};
+ghost use Rattle.bgp_codec.specs.Spelling.{written};
 ghost use Rattle.bgp_codec.specs.declared.message.Message.TheVariants.{UpdateMsg};
 ghost use Rattle.bgp_codec.specs.declared.update.Update as update;
-ghost use Rattle.bgp_codec.specs.Header.{IsFrame};
 ghost use Rattle.bgp_values.specs.declared.width.Width as widths;
-ghost use Rattle.bgp_codec.specs.Faults.{reading};
-ghost use Rattle.bgp_codec.specs.Spelling.{written};
-ghost use Rattle.run_model.specs.Octets.{octets_of};
 ghost use Rattle.router_model.specs.Sides.{with_update};
-ghost use Rattle.router_side.specs.Sayings.{nobody, IsSayable};
 ghost use Rattle.router_side.specs.Histories.{history, spelt, spelt_by, stored_len, told_stored, updates_read, AreStored, IsStored};
+ghost use Rattle.router_side.specs.Sayings.{nobody, IsSayable};
+ghost use Rattle.run_model.specs.Octets.{octets_of};
 
 use crate::history::{PastUpdate, nobody};
 use crate::told_path::{FRONT, ToldPath, announcement_start, shortened};

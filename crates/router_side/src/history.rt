@@ -1,16 +1,16 @@
 //! The UPDATEs of a side, by incarnation, in octets that tell which they are.
 
 ghost use Rattle.std.specs.Prelude.{◌≡◌, ◌≤◌, ◌++◌, [], length, Ok, IfOk, OnOk, OnErr};
+ghost use Rattle.bgp_codec.specs.Faults.{reading};
+ghost use Rattle.bgp_codec.specs.Header.{IsFrame};
+ghost use Rattle.bgp_codec.specs.Spelling.{written};
 ghost use Rattle.bgp_codec.specs.declared.message.Message.TheVariants.{UpdateMsg};
 ghost use Rattle.bgp_codec.specs.declared.update.Update as update;
-ghost use Rattle.bgp_codec.specs.Header.{IsFrame};
 ghost use Rattle.bgp_values.specs.declared.width.Width as widths;
-ghost use Rattle.bgp_codec.specs.Faults.{reading};
-ghost use Rattle.bgp_codec.specs.Spelling.{written};
-ghost use Rattle.run_model.specs.Octets.{octets_of};
 ghost use Rattle.router_model.specs.Sides.{with_update};
-ghost use Rattle.router_side.specs.Sayings.{nobody, IsSayable};
 ghost use Rattle.router_side.specs.Histories.{history, told_with};
+ghost use Rattle.router_side.specs.Sayings.{nobody, IsSayable};
+ghost use Rattle.run_model.specs.Octets.{octets_of};
 
 use crate::block::Block;
 use crate::told_path::ToldPath;

@@ -1,14 +1,14 @@
 //! The message or fault of a frame, and the event that it brings.
 
 ghost use Rattle.std.specs.Prelude.{◌≡◌, Ok, Err, IfOk};
-ghost use Rattle.bgp_codec.specs.declared.message.Message.TheVariants.{NoticeMsg};
-ghost use Rattle.bgp_codec.specs.Header.{IsFrame};
 ghost use Rattle.bgp_codec.specs.Faults.{reading};
+ghost use Rattle.bgp_codec.specs.Header.{IsFrame};
 ghost use Rattle.bgp_codec.specs.Spelling.{IsWritable};
-ghost use Rattle.session_fsm.specs.Table.{IsGoodEvent};
+ghost use Rattle.bgp_codec.specs.declared.message.Message.TheVariants.{NoticeMsg};
 ghost use Rattle.router_model.specs.Sides.{event_of, at_hand};
-ghost use Rattle.router_side.specs.Sayings.{told_of, IsSayableWhere};
 ghost use Rattle.router_side.specs.Drafts.{hand};
+ghost use Rattle.router_side.specs.Sayings.{told_of, IsSayableWhere};
+ghost use Rattle.session_fsm.specs.Table.{IsGoodEvent};
 
 use crate::brought::Brought;
 use crate::told_path::ToldPath;

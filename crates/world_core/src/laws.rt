@@ -1,14 +1,14 @@
 //! The laws of a world of routers, for every list of events.
 
-ghost use Rattle.world_core.specs.Keeping.{WhatIsPlayedIsARun, WhatIsPlayedIsReplayed, StepsAreReplayed, PlayedWorldsKeepTheirPromises, NothingWhereNoStepIs};
-ghost use Rattle.world_core.specs.Verdicts.{MembersAreOfTheNetwork, CollectorsJudgeTheirRuns, MembersAreTheRouters};
 ghost use Rattle.world_core.specs.Answering.{AnswersAreThrough};
+ghost use Rattle.world_core.specs.Keeping.{WhatIsPlayedIsARun, WhatIsPlayedIsReplayed, StepsAreReplayed, PlayedWorldsKeepTheirPromises, NothingWhereNoStepIs};
 ghost use Rattle.world_core.specs.Loops.{OneMore};
+ghost use Rattle.world_core.specs.OneRun.{PlayedRunsAreOne, PlayedCutsAreOne};
 ghost use Rattle.world_core.specs.Picking.{NamesAreEnough};
+ghost use Rattle.world_core.specs.Replays.{ChosenRunsArePlayed, CalledRunsArePlayed, AnswersAreCalled, WorldsHaveTheirRuns, CutsArePlayed};
 ghost use Rattle.world_core.specs.Tested.{TestsTellWhatIsInside};
 ghost use Rattle.world_core.specs.Through.{PickedIsThrough};
-ghost use Rattle.world_core.specs.Replays.{ChosenRunsArePlayed, CalledRunsArePlayed, AnswersAreCalled, WorldsHaveTheirRuns, CutsArePlayed};
-ghost use Rattle.world_core.specs.OneRun.{PlayedRunsAreOne, PlayedCutsAreOne};
+ghost use Rattle.world_core.specs.Verdicts.{MembersAreOfTheNetwork, CollectorsJudgeTheirRuns, MembersAreTheRouters};
 
 use router_model::laws::{
     answers_are_steps, idle_where_nothing_may_come, linked_routers_are_peers,

@@ -1,20 +1,20 @@
 //! Messages and faults that a router handles.
 
-ghost use Rattle.bgp_values.specs.declared.width.Width as widths;
 ghost use Rattle.std.specs.Prelude.{◌≡◌, true, slice_get, IfOk, IfSome, OnOk, OnErr, ℕ, List, Option, Some};
 ghost use Rattle.bgp_codec.specs.declared.update.Update as update;
 ghost use Rattle.bgp_framing.specs.Held.{is_waiting};
-ghost use Rattle.snap_marker.specs.Recordings.{closed};
-ghost use Rattle.snap_marker.specs.Parts.{snapshots_of, is_heard, HasRoom, IsLink, IsOver, AreOf};
+ghost use Rattle.bgp_values.specs.declared.width.Width as widths;
+ghost use Rattle.router_core.specs.Calling.{NeedsRoom};
+ghost use Rattle.router_core.specs.Handling.{update_acted, copy_where, seen_where, Hears, HandlesFront};
+ghost use Rattle.router_core.specs.Views.{IsSame, Answers};
+ghost use Rattle.router_model.specs.Calls.{Handle};
 ghost use Rattle.router_model.specs.Settings.{peers};
 ghost use Rattle.router_model.specs.Step.{close_at};
-ghost use Rattle.router_model.specs.Calls.{Handle};
 ghost use Rattle.router_side.specs.Drafts.{hand};
 ghost use Rattle.router_side.specs.Sayings.{IsSayable};
 ghost use Rattle.router_side.specs.SideOf.{side, naming};
-ghost use Rattle.router_core.specs.Views.{IsSame, Answers};
-ghost use Rattle.router_core.specs.Calling.{NeedsRoom};
-ghost use Rattle.router_core.specs.Handling.{update_acted, copy_where, seen_where, Hears, HandlesFront};
+ghost use Rattle.snap_marker.specs.Parts.{snapshots_of, is_heard, HasRoom, IsLink, IsOver, AreOf};
+ghost use Rattle.snap_marker.specs.Recordings.{closed};
 
 use super::carry::{carry_front, close};
 use super::{Router, next_stamp_with_room};

@@ -1,18 +1,18 @@
 //! A draft is given room, and carried out.
 
 ghost use Rattle.std.specs.Prelude.{◌≡◌, ◌≤◌, ◌++◌, [], true, cond, length, None, OnOk, OnErr};
-ghost use Rattle.bgp_values.specs.declared.messages.TheConstants.{MESSAGE_LIMIT};
-ghost use Rattle.bgp_values.specs.declared.width.Width as widths;
 ghost use Rattle.bgp_codec.specs.Header.{header_fault};
 ghost use Rattle.bgp_codec.specs.Spelling.{written};
 ghost use Rattle.bgp_framing.specs.Held.{is_waiting};
-ghost use Rattle.run_model.specs.Octets.{passing};
-ghost use Rattle.session_fsm.specs.Timers.{ticked};
+ghost use Rattle.bgp_values.specs.declared.messages.TheConstants.{MESSAGE_LIMIT};
+ghost use Rattle.bgp_values.specs.declared.width.Width as widths;
 ghost use Rattle.router_model.specs.Sides.{carried, acted_with, rest_behind, without_front, NoMessage};
-ghost use Rattle.router_side.specs.Sayings.{told_of, all_entries, all_sizes, size_where, IsSayable, IsSayableWhere};
 ghost use Rattle.router_side.specs.Drafts.{draft, hand};
 ghost use Rattle.router_side.specs.Histories.{history, told_with};
+ghost use Rattle.router_side.specs.Sayings.{told_of, all_entries, all_sizes, size_where, IsSayable, IsSayableWhere};
 ghost use Rattle.router_side.specs.SideOf.{side, IsInFront, HasRoom, KeepsRoom};
+ghost use Rattle.run_model.specs.Octets.{passing};
+ghost use Rattle.session_fsm.specs.Timers.{ticked};
 
 use super::SideEnd;
 use crate::append::{append_all, size_of_all, size_told};
