@@ -88,10 +88,16 @@ enum Row {
     At(At, Of),
     /// A peer announces prefixes along a path, and withdraws others.
     Hears(Asn, Along, &'static [At], &'static [At]),
+    /// The same, by the place of the peer.
+    HearsAt(Asn, Along, &'static [At], &'static [At]),
     /// The session with a peer is Established.
     ComesUp(Asn),
+    /// The same, by the place of the peer.
+    ComesUpAt(Asn),
     /// The session with a peer is left.
     Forgets(Asn),
+    /// The same, by the place of the peer.
+    ForgetsAt(Asn),
     /// The router decides once: this prefix, or none.
     Decides(Option<At>),
     /// The router starts again.
@@ -285,6 +291,13 @@ fn hear(rib: &mut Rib, peer: Asn, update: &Update) -> bool {
     rib.hear(peer, update).is_ok()
 }
 
+fn hear_at(rib: &mut Rib, peer: Asn, update: &Update) -> bool {
+    match peer_place(rib, peer) {
+        Some(place) => rib.hear_at(place, peer, update).is_ok(),
+        None => false,
+    }
+}
+
 fn hear_path_at(rib: &mut Rib, peer: Asn, prefix: &Prefix, path: &[Asn]) -> bool {
     match peer_place(rib, peer) {
         Some(place) => rib.hear_path_at(place, peer, prefix, path).is_ok(),
@@ -299,6 +312,13 @@ fn says(rib: &mut Rib, peer: Asn, update: Result<Update, AllocError>) -> bool {
     }
 }
 
+fn says_at(rib: &mut Rib, peer: Asn, update: Result<Update, AllocError>) -> bool {
+    match update {
+        Ok(update) => hear_at(rib, peer, &update),
+        Err(_) => false,
+    }
+}
+
 fn comes_up(rib: &mut Rib, peer: Asn) -> bool {
     if !rib.network().linked(rib.router(), peer) {
         return false;
@@ -307,11 +327,27 @@ fn comes_up(rib: &mut Rib, peer: Asn) -> bool {
     true
 }
 
+fn comes_up_at(rib: &mut Rib, peer: Asn) -> bool {
+    let Some(place) = peer_place(rib, peer) else {
+        return false;
+    };
+    rib.come_up_at(place, peer);
+    true
+}
+
 fn forgets(rib: &mut Rib, peer: Asn) -> bool {
     if !rib.network().linked(rib.router(), peer) {
         return false;
     }
     rib.forget(peer);
+    true
+}
+
+fn forgets_at(rib: &mut Rib, peer: Asn) -> bool {
+    let Some(place) = peer_place(rib, peer) else {
+        return false;
+    };
+    rib.forget_at(place, peer);
     true
 }
 
@@ -527,8 +563,13 @@ fn is_so(alloc: Global, rib: &mut Rib, row: Row) -> bool {
         Row::Hears(peer, along, nlri, withdrawn) => {
             says(rib, peer, updates(alloc, along, nlri, withdrawn))
         }
+        Row::HearsAt(peer, along, nlri, withdrawn) => {
+            says_at(rib, peer, updates(alloc, along, nlri, withdrawn))
+        }
         Row::ComesUp(peer) => comes_up(rib, peer),
+        Row::ComesUpAt(peer) => comes_up_at(rib, peer),
         Row::Forgets(peer) => forgets(rib, peer),
+        Row::ForgetsAt(peer) => forgets_at(rib, peer),
         Row::Decides(wanted) => decides_at(alloc, rib, wanted),
         Row::Clears => clears(rib),
         Row::Dirty(wanted) => is_at(dirty(rib), wanted),
@@ -566,9 +607,9 @@ fn tries(rt: &impl Abort, alloc: Global, router: Asn, rows: &[Row]) -> Result<()
 }
 
 // The calls by place: those of the peers 2 and 3 of router 4 are 0 and 1, those of the prefixes 0 to 2.
-static BY_PLACE: [Row; 19] = [
-    Row::ComesUp(3),
-    Row::ComesUp(2),
+static BY_PLACE: [Row; 24] = [
+    Row::ComesUpAt(3),
+    Row::ComesUpAt(2),
     Row::At(SHORT, Of::SaysAt(3, &TEN_LONG)),
     Row::At(SHORT, Of::Heard(3, &TEN_LONG)),
     Row::At(LONG, Of::SaysAt(2, &[2, 1])),
@@ -584,8 +625,13 @@ static BY_PLACE: [Row; 19] = [
     Row::At(FAR, Of::OriginatedAt(false)),
     Row::At(FAR, Of::Originates),
     Row::At(FAR, Of::OriginatedAt(true)),
-    Row::Forgets(3),
+    Row::HearsAt(2, Along::Path(&[2, 3, 1]), &[SHORT], &[LONG]),
+    Row::At(SHORT, Of::Heard(2, &[2, 3, 1])),
+    Row::At(SHORT, Of::Heard(3, &TEN_LONG)),
+    Row::ForgetsAt(3),
     Row::At(LONG, Of::Unsent(3)),
+    Row::At(SHORT, Of::Unheard(3)),
+    Row::At(SHORT, Of::Heard(2, &[2, 3, 1])),
 ];
 
 #[test]
