@@ -1,12 +1,12 @@
 -- The small runs in which a law fails of a wrong definition.
 use Rattle.std.proofs.Common.{◌≡◌, ◌≢◌, ℕ, ◌==◌, Bool, true, false, cond, List, [], ◌∷◌, ◌++◌, Some, refl, sym, arith, subst, inl, inr}
 use mathlib.Core.List.{IsPrefix}
-use Rattle.run_model.specs.Links.{End, Move, Dial, Says, Mark, greatest_dial, said, is_up, taking, opening}
+use Rattle.run_model.specs.Links.{End, Move, Dial, Says, Mark, greatest_dial, said, is_up, taking, opening, IsRunBy}
 use Rattle.run_model.specs.Recordings.{Recorders, RecordingStep, Begins, Follows, Finishes, EndsChannel, IgnoresMarker, Moves, MayAct, with_end, marked, first_recorders}
 use Rattle.run_model.specs.Routes.{Routers, Acts, Decide, Command, updates, route, IsNetworkRun, routers_after, first_routers, NetworkStep}
 use Rattle.run_model.specs.Offers.{IsIn}
 use Rattle.run_model.specs.Examples.{Sample, Open, Keepalive, Update, pair}
-use Rattle.run_model.specs.WrongTwins.{using_any, stale_steps, IsRunBy, UsingAnyBreaksOrder, Rule, Guard, recorded_by, IsRecordedBy, recorders_by, acts, session_up, late_rule, late_guard, line, late_steps, LateRecordingBreaksCut, overtaking_mark, overtaking_rule, overtaking_steps, OvertakingBreaksChannel, network_up, forgetful_steps, step_by, ForgettingBreaksStability}
+use Rattle.run_model.specs.WrongTwins.{using_any, stale_steps, UsingAnyBreaksOrder, Rule, Guard, recorded_by, IsRecordedBy, recorders_by, acts, session_up, late_rule, late_guard, line, late_steps, LateRecordingBreaksCut, overtaking_mark, overtaking_rule, overtaking_steps, OvertakingBreaksChannel, network_up, forgetful_steps, step_by, ForgettingBreaksStability}
 use Rattle.run_model.proofs.ExampleRuns.{at_only}
 
 stale_run : IsRunBy using_any opening stale_steps

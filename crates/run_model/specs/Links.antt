@@ -184,19 +184,33 @@ pub record LinkStep (M : Type 0) : Type 0 where
   pub peer : ℕ
   pub move : Move M
 
-module _ {M : Type 0} where
-  abbrev pub moved : Ends M → LinkStep M → Ends M
-  moved w m = λ u v. cond (u == m.router) (cond (v == m.peer) (after (w u v) m.move) (w u v)) (w u v)
+-- w with a change at s and t, and nowhere else
+abbrev pub changed_at : {A : Type 0} → ℕ → ℕ → (A → A) → (ℕ → ℕ → A) → ℕ → ℕ → A
+changed_at s t change w = λ u v. cond (u == s) (cond (v == t) (change (w u v)) (w u v)) (w u v)
 
-  -- a run: each move is allowed where it is made
+module _ {M : Type 0} where
+  module _ (rule : End M → Move M → End M) where
+    abbrev pub moved_by : Ends M → LinkStep M → Ends M
+    moved_by w m = changed_at m.router m.peer (λ a. rule a m.move) w
+
+    -- a run of ends that move by the rule: each move is allowed where it is made
+    abbrev pub IsRunBy : Ends M → List (LinkStep M) → Type 0
+    IsRunBy w [] = Unit {0}
+    IsRunBy w (m ∷ ms) =
+        (m.router ≢ m.peer) × May (w m.router m.peer) (w m.peer m.router) m.move × IsRunBy (moved_by w m) ms
+
+    abbrev pub ends_by : Ends M → List (LinkStep M) → Ends M
+    ends_by w [] = w
+    ends_by w (m ∷ ms) = ends_by (moved_by w m) ms
+
+  abbrev pub moved : Ends M → LinkStep M → Ends M
+  moved = moved_by after
+
   abbrev pub IsRun : Ends M → List (LinkStep M) → Type 0
-  IsRun w [] = Unit {0}
-  IsRun w (m ∷ ms) =
-      (m.router ≢ m.peer) × May (w m.router m.peer) (w m.peer m.router) m.move × IsRun (moved w m) ms
+  IsRun = IsRunBy after
 
   abbrev pub ends_after : Ends M → List (LinkStep M) → Ends M
-  ends_after w [] = w
-  ends_after w (m ∷ ms) = ends_after (moved w m) ms
+  ends_after = ends_by after
 
   -- nothing was appended or taken
   abbrev pub new_end : End M
@@ -208,12 +222,14 @@ module _ {M : Type 0} where
   abbrev pub close_of : ℕ → ℕ → LinkStep M
   close_of u v = record { router = u; peer = v; move = HangsUp }
 
--- a run, and then moves that are a run from where it ends, make a longer run
+-- a run, and then steps that are a run from where it ends, make a longer run
+abbrev pub RunsGoOn : {S T : Type 0} → (S → List T → Type 0) → (S → List T → S) → S → Type 0
+RunsGoOn {S} {T} IsRunFrom reach first =
+    (ts more : List T) → IsRunFrom first ts → IsRunFrom (reach first ts) more
+    → IsRunFrom first (ts ++ more) × (reach first (ts ++ more) ≡ reach (reach first ts) more)
+
 abbrev pub LinkRunsGoOn : Type 0 → Type 0
-LinkRunsGoOn M =
-    (moves more : List (LinkStep M)) → IsRun opening moves → IsRun (ends_after opening moves) more
-    → IsRun opening (moves ++ more)
-    × (ends_after opening (moves ++ more) ≡ ends_after (ends_after opening moves) more)
+LinkRunsGoOn M = RunsGoOn (IsRun {M = M}) ends_after opening
 
 -- in every run, what an end used in an incarnation is a beginning of what its peer said in it
 abbrev pub UsedBeginsSaid : Type 0 → Type 0

@@ -2,7 +2,7 @@
 use Rattle.std.specs.Prelude.{ℕ, ◌<◌, ◌≤◌, ◌≡◌, ◌≢◌, ◌==◌, Bool, true, false, cond, List, [], ◌∷◌, ◌++◌, length, Option, Some, None, slice_get, filter}
 use mathlib.Core.List.{IsPrefix}
 use mathlib.Core.Logic.{◌⊎◌}
-use Rattle.run_model.specs.Links.{End, Dials, Tells, Marks, HangsUp, Takes, is_up, incarnation}
+use Rattle.run_model.specs.Links.{End, Dials, Tells, Marks, HangsUp, Takes, is_up, incarnation, RunsGoOn}
 use Rattle.run_model.specs.Recordings.{Recorder, Act, Moves, EndsChannel, IgnoresMarker, Begins, Follows, Finishes}
 use Rattle.run_model.specs.Routes.{Network, IsNetwork, Router, Routers, Event, Acts, Advertise, Decide, Command, NetworkStep, updates, IsNotPending, router_after, MayHappen, first_routers, IsSettled, HasAllParts, IsRunOf, reached, IsStableAssignment, route}
 use Rattle.run_model.specs.Quiet.{IsQuietSince}
@@ -249,11 +249,8 @@ OutcomeIsOne M P W =
     (g : Network M P W) (s : ℕ) (made : List (Made M P W)) (a b : Outcome) → HasOutcome g s made a
     → HasOutcome g s made b → a ≡ b
 
--- a run, and then events that are a run from where it ends, make a longer run
 abbrev pub OfferRunsGoOn : (M P W : Type 0) → Type 0
-OfferRunsGoOn M P W =
-    (g : Network M P W) (ts more : List (OfferStep M P W)) → IsOfferRunOf g ts → IsOfferRun g (final g ts) more
-    → IsOfferRunOf g (ts ++ more) × (final g (ts ++ more) ≡ offerings_after g (final g ts) more)
+OfferRunsGoOn M P W = (g : Network M P W) → RunsGoOn (IsOfferRun g) (offerings_after g) (first_offering g)
 
 -- without the offers, a run with offers is a run of the network, and ends in the same routers
 abbrev pub OffersAside : (M P W : Type 0) → Type 0

@@ -48,14 +48,30 @@ module _ {M : Type 0} where
   unfinished_after up HangsUp n = cond up None n
   unfinished_after up _ n = n
 
-  abbrev pub recording : Recorder M → (ℕ → End M) → ℕ → Bool → (ℕ → Bool) → Recorder M
-  recording x ends s whole waits = record {
-    ends = λ y. marked s (ends y);
+  -- a router records a number: mark is what that does to each end
+  abbrev pub recording_by : (ℕ → End M → End M) → Recorder M → (ℕ → End M) → ℕ → Bool → (ℕ → Bool) → Recorder M
+  recording_by mark x ends s whole waits = record {
+    ends = λ y. mark s (ends y);
     last = s;
-    copy = λ n. cond (n == s) (Some (λ y. marked s (ends y))) (x.copy n);
+    copy = λ n. cond (n == s) (Some (λ y. mark s (ends y))) (x.copy n);
     unfinished = cond whole (Some s) None;
     waits = waits;
     channel = λ y. [];
+    part = x.part;
+  }
+
+  abbrev pub recording : Recorder M → (ℕ → End M) → ℕ → Bool → (ℕ → Bool) → Recorder M
+  recording = recording_by marked
+
+  -- the marker of number s of peer v's incarnation e is taken
+  abbrev pub taking_marker : Recorder M → ℕ → ℕ → ℕ → (ℕ → Bool) → Recorder M
+  taking_marker x v e s waits = record {
+    ends = with_end x.ends v (taking (x.ends v) (Mark e s));
+    last = x.last;
+    copy = x.copy;
+    unfinished = x.unfinished;
+    waits = waits;
+    channel = x.channel;
     part = x.part;
   }
 
@@ -70,24 +86,8 @@ module _ {M : Type 0} where
         λ y. cond (y == v) (cond (x.waits y) (x.channel y ++ used_by (x.ends v) move) (x.channel y)) (x.channel y);
     part = x.part;
   }
-  recorder_after x (EndsChannel v e s) = record {
-    ends = with_end x.ends v (taking (x.ends v) (Mark e s));
-    last = x.last;
-    copy = x.copy;
-    unfinished = x.unfinished;
-    waits = λ y. cond (y == v) false (x.waits y);
-    channel = x.channel;
-    part = x.part;
-  }
-  recorder_after x (IgnoresMarker v e s) = record {
-    ends = with_end x.ends v (taking (x.ends v) (Mark e s));
-    last = x.last;
-    copy = x.copy;
-    unfinished = x.unfinished;
-    waits = x.waits;
-    channel = x.channel;
-    part = x.part;
-  }
+  recorder_after x (EndsChannel v e s) = taking_marker x v e s (λ y. cond (y == v) false (x.waits y))
+  recorder_after x (IgnoresMarker v e s) = taking_marker x v e s x.waits
   recorder_after x (Begins s whole) = recording x x.ends s whole (λ y. true)
   recorder_after x (Follows v e s whole) =
       recording x (with_end x.ends v (taking (x.ends v) (Mark e s))) s whole (λ y. not (y == v))

@@ -1,7 +1,7 @@
 -- Routers that choose routes and tell them to their peers, over routers that record snapshots: ranked paths, choices and
 -- stable path assignments (Griffin, Shepherd and Wilfong 2002).
-use Rattle.std.specs.Prelude.{ℕ, ◌≡◌, ◌≢◌, ◌==◌, Bool, true, false, ◌&&◌, not, cond, List, [], ◌∷◌, ◌++◌, Some, filter}
-use Rattle.run_model.specs.Links.{End, Move, Tells, HangsUp, said, is_up, incarnation}
+use Rattle.std.specs.Prelude.{ℕ, ◌≡◌, ◌≢◌, ◌==◌, Bool, true, false, ◌&&◌, not, cond, List, [], ◌∷◌, Some, filter}
+use Rattle.run_model.specs.Links.{End, Move, Tells, HangsUp, said, is_up, incarnation, RunsGoOn}
 use Rattle.run_model.specs.Recordings.{Recorder, Act, Moves, Begins, Follows, recorder_after, new_recorder, MayAct}
 
 -- a network of routers that speak messages M of prefixes P and paths W
@@ -196,11 +196,8 @@ module _ {M P W : Type 0} (g : Network M P W) where
   HasAllParts w s =
       (u : ℕ) → g.routers u ≡ true → (channels : ℕ → List M) × ((w u).recorder.part s ≡ Some channels)
 
--- a run, and then events that are a run from where it ends, make a longer run
 abbrev pub NetworkRunsGoOn : (M P W : Type 0) → Type 0
-NetworkRunsGoOn M P W =
-    (g : Network M P W) (ts more : List (NetworkStep M P W)) → IsRunOf g ts → IsNetworkRun g (reached g ts) more
-    → IsRunOf g (ts ++ more) × (reached g (ts ++ more) ≡ routers_after g (reached g ts) more)
+NetworkRunsGoOn M P W = (g : Network M P W) → RunsGoOn (IsNetworkRun g) (routers_after g) (first_routers g)
 
 -- the recorded paths of a settled snapshot are a stable assignment, for each prefix
 abbrev pub SettledIsStable : (M P W : Type 0) → Type 0

@@ -1,6 +1,6 @@
 -- The states of a session (RFC 4271 section 8.2.2), and the moves of its end at each of its events.
-use Rattle.std.specs.Prelude.{ℕ, ◌<◌, ◌≤◌, ◌≡◌, ◌≢◌, ◌==◌, Bool, true, cond, List, [], ◌∷◌, ◌++◌, length}
-use Rattle.run_model.specs.Links.{End, Entry, Dial, Says, Mark, Shut, Phase, Closed, Offered, Joined, Move, Dials, Tells, Marks, HangsUp, Takes, said, answers, after, is_up, new_end, phase_at_dial, LinkStep, IsRun, opening, ends_after, incarnation, heard_number}
+use Rattle.std.specs.Prelude.{ℕ, ◌<◌, ◌≤◌, ◌≡◌, ◌≢◌, Bool, true, cond, List, [], ◌∷◌, ◌++◌, length}
+use Rattle.run_model.specs.Links.{End, Entry, Dial, Says, Mark, Shut, Phase, Closed, Offered, Joined, Move, Dials, Tells, Marks, HangsUp, Takes, said, answers, after, is_up, new_end, phase_at_dial, LinkStep, changed_at, RunsGoOn, IsRun, opening, ends_after, incarnation, heard_number}
 pub use Rattle.run_model.specs.Links.{IsNext}
 
 pub data SessionState : Type 0 where
@@ -176,7 +176,7 @@ pub record SessionStep (M : Type 0) : Type 0 where
 
 module _ {M : Type 0} where
   abbrev pub came : Sides M → SessionStep M → Sides M
-  came w t = λ u v. cond (u == t.router) (cond (v == t.peer) (side_after (w u v) t.event) (w u v)) (w u v)
+  came w t = changed_at t.router t.peer (λ x. side_after x t.event) w
 
   abbrev pub IsSessionRun : Sides M → List (SessionStep M) → Type 0
   IsSessionRun w [] = Unit {0}
@@ -204,12 +204,8 @@ module _ {M : Type 0} where
   all_moves w (t ∷ ts) =
       link_steps t.router t.peer (moves_of (w t.router t.peer).end t.event) ++ all_moves (came w t) ts
 
--- a run of sessions, and then events that are a run from where it ends, make a longer run
 abbrev pub SessionRunsGoOn : Type 0 → Type 0
-SessionRunsGoOn M =
-    (ts more : List (SessionStep M)) → IsSessionRun first_sides ts → IsSessionRun (sides_after first_sides ts) more
-    → IsSessionRun first_sides (ts ++ more)
-    × (sides_after first_sides (ts ++ more) ≡ sides_after (sides_after first_sides ts) more)
+SessionRunsGoOn M = RunsGoOn (IsSessionRun {M = M}) sides_after first_sides
 
 -- a run of sessions is, by its moves, a run of link ends, and ends in these
 abbrev pub SessionsMakeALinkRun : Type 0 → Type 0

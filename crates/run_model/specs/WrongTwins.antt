@@ -1,8 +1,8 @@
 -- Definitions that are wrong, each with a small run in which a law fails for it.
-use Rattle.std.specs.Prelude.{ℕ, ◌<◌, ◌≡◌, ◌≢◌, ◌==◌, Bool, true, false, cond, List, [], ◌∷◌, ◌++◌, Some, None}
+use Rattle.std.specs.Prelude.{ℕ, ◌<◌, ◌≡◌, ◌≢◌, ◌==◌, Bool, true, false, not, cond, List, [], ◌∷◌, ◌++◌, Some}
 use mathlib.Core.List.{IsPrefix}
-use Rattle.run_model.specs.Links.{Entry, Dial, Says, Mark, Shut, End, Move, Dials, Tells, HangsUp, Takes, Ends, LinkStep, after, taking, May, opening, said, is_up, incarnation}
-use Rattle.run_model.specs.Recordings.{Recorder, Recorders, Act, Moves, EndsChannel, IgnoresMarker, Begins, Follows, Finishes, RecordingStep, with_end, recorder_after, recording, first_recorders, IsNext, MayAct, IsChannel}
+use Rattle.run_model.specs.Links.{Entry, Dial, Says, Mark, Shut, End, Move, Dials, Tells, HangsUp, Takes, LinkStep, IsRunBy, ends_by, after, taking, opening, said, is_up, incarnation}
+use Rattle.run_model.specs.Recordings.{Recorder, Recorders, Act, Moves, EndsChannel, IgnoresMarker, Begins, Follows, Finishes, RecordingStep, with_end, recorder_after, recording, recording_by, first_recorders, IsNext, MayAct, IsChannel}
 use Rattle.run_model.specs.Routes.{Network, Routers, Event, Acts, Decide, Command, NetworkStep, updates, route, IsStableAssignment, IsRunOf, reached}
 use Rattle.run_model.specs.Offers.{IsIn}
 use Rattle.run_model.specs.Examples.{Sample, Open, Keepalive, Update, pair, link_move}
@@ -26,20 +26,6 @@ module _ {M : Type 0} where
   abbrev pub using_any : End M → Move M → End M
   using_any a (Takes x) = taking_any a x
   using_any a move = after a move
-
-  -- runs of ends that move by another rule
-  module _ (rule : End M → Move M → End M) where
-    abbrev pub moved_by : Ends M → LinkStep M → Ends M
-    moved_by w m = λ u v. cond (u == m.router) (cond (v == m.peer) (rule (w u v) m.move) (w u v)) (w u v)
-
-    abbrev pub IsRunBy : Ends M → List (LinkStep M) → Type 0
-    IsRunBy w [] = Unit {0}
-    IsRunBy w (m ∷ ms) =
-        (m.router ≢ m.peer) × May (w m.router m.peer) (w m.peer m.router) m.move × IsRunBy (moved_by w m) ms
-
-    abbrev pub ends_by : Ends M → List (LinkStep M) → Ends M
-    ends_by w [] = w
-    ends_by w (m ∷ ms) = ends_by (moved_by w m) ms
 
 -- router 2 tells an UPDATE in incarnation 1; before it is taken, router 1 hangs up and dials number 2
 abbrev pub stale_steps : List (LinkStep Sample)
@@ -153,24 +139,13 @@ module _ {M : Type 0} where
       (record { appended = before_last (Mark (incarnation a) s) a.appended; taken = a.taken; phase = a.phase; used = a.used })
       a
 
-  abbrev pub overtaking_recording : Recorder M → (ℕ → End M) → ℕ → Bool → (ℕ → Bool) → Recorder M
-  overtaking_recording x ends s whole waits = record {
-    ends = λ y. overtaking_mark s (ends y);
-    last = s;
-    copy = λ n. cond (n == s) (Some (λ y. overtaking_mark s (ends y))) (x.copy n);
-    unfinished = cond whole (Some s) None;
-    waits = waits;
-    channel = λ y. [];
-    part = x.part;
-  }
-
   abbrev pub overtaking_rule : Rule M
   overtaking_rule x (Moves v move) = recorder_after x (Moves v move)
   overtaking_rule x (EndsChannel v e s) = recorder_after x (EndsChannel v e s)
   overtaking_rule x (IgnoresMarker v e s) = recorder_after x (IgnoresMarker v e s)
-  overtaking_rule x (Begins s whole) = overtaking_recording x x.ends s whole (λ y. true)
+  overtaking_rule x (Begins s whole) = recording_by overtaking_mark x x.ends s whole (λ y. true)
   overtaking_rule x (Follows v e s whole) =
-      overtaking_recording x (with_end x.ends v (taking (x.ends v) (Mark e s))) s whole (λ y. cond (y == v) false true)
+      recording_by overtaking_mark x (with_end x.ends v (taking (x.ends v) (Mark e s))) s whole (λ y. not (y == v))
   overtaking_rule x (Finishes s) = recorder_after x (Finishes s)
 
 -- each of two routers has told an UPDATE that waits; router 1 begins, and router 2 follows
