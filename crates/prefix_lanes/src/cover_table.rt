@@ -130,7 +130,13 @@ fn longest_in(entries: &[Prefix], addrs: &[u32], masks: &[u32], prefix: &Prefix)
         from += 8;
     }
     for place in from..entries.len() {
-        best = better(entries, prefix, place, best);
+        let entry = entries[place];
+        if entry.covers(prefix) && is_longer(entry.len(), &best) {
+            best = Some(Candidate {
+                place,
+                len: entry.len() as usize,
+            });
+        }
     }
     match best {
         Some(candidate) => Some(candidate.place),
@@ -191,27 +197,6 @@ fn better_alike(
         return Some(Candidate {
             place,
             len: len as usize,
-        });
-    }
-    best
-}
-
-/// The best after the entry at this place.
-fn better(
-    entries: &[Prefix],
-    prefix: &Prefix,
-    place: usize,
-    best: Option<Candidate>,
-) -> Option<Candidate>
-    requires inside { place < length entries.now }
-    requires best { IsBest (take place entries.now) prefix.now best }
-    ensures { IsBest (take (place + 1) entries.now) prefix.now result }
-{
-    let entry = entries[place];
-    if entry.covers(prefix) && is_longer(entry.len(), &best) {
-        return Some(Candidate {
-            place,
-            len: entry.len() as usize,
         });
     }
     best
