@@ -6,47 +6,27 @@ ghost use Rattle.error_words.specs.Meanings.{row_of, meaning_in, meaning, whole_
 use net_text::lexing::same;
 
 // Each code of a line, and its meaning.
+#[rattlefmt::skip]
 static MEANINGS: [(&[u8], &[u8]); 19] = [
-    (
-        b"N1",
-        b"an unknown first word, a wrong number of words, or an octet past ASCII",
-    ),
+    (b"N1", b"an unknown first word, a wrong number of words, or an octet past ASCII"),
     (b"N2", b"a number, address or path that can't be read"),
     (b"N3", b"a router that no earlier line names"),
-    (
-        b"N4",
-        b"what came before, or a link of a router with itself",
-    ),
+    (b"N4", b"what came before, or a link of a router with itself"),
     (b"N5", b"the network isn't connected"),
     (b"N6", b"a number or count outside its limit"),
-    (
-        b"N7",
-        b"a path that isn't simple, or doesn't begin with its router",
-    ),
+    (b"N7", b"a path that isn't simple, or doesn't begin with its router"),
     (b"N8", b"a prefix that can't be read, or without an origin"),
     (b"S1", b"a path that isn't permitted"),
     (b"E1", b"a session with a router that is no peer"),
     (b"E2", b"a router that is not the prefix's origin"),
-    (
-        b"E3",
-        b"a snapshot whose number is not above the router's last",
-    ),
+    (b"E3", b"a snapshot whose number is not above the router's last"),
     (b"E6", b"a stamp past the greatest number"),
     (b"E8", b"an incarnation past the greatest number"),
     (b"V1", b"no router"),
     (b"V2", b"no link"),
-    (
-        b"G2",
-        b"a router had no stamp or no incarnation left, or its offer was refused",
-    ),
-    (
-        b"G3",
-        b"chores that leave no room for the snapshots, or are not 1 to 1000000",
-    ),
-    (
-        b"G4",
-        b"the offers on the board are not those that the workers wrote down",
-    ),
+    (b"G2", b"a router had no stamp or no incarnation left, or its offer was refused"),
+    (b"G3", b"chores that leave no room for the snapshots, or are not 1 to 1000000"),
+    (b"G4", b"the offers on the board are not those that the workers wrote down"),
 ];
 
 // The meaning of a code by these rows, or where it is told.
