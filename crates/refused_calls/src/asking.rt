@@ -5,8 +5,8 @@ use ranked_policy::Network;
 use std::alloc::{AllocError, Global};
 use std::mem::forget;
 
-/// A value that is asked. Nothing is ensured of its answers, so that one is not carried along to the next.
-pub trait Asked {
+/// A value that answers calls. Nothing is ensured of its answers, so that one is not carried along to the next.
+pub trait Callee {
     type Call;
 
     type Answer: Copy + PartialEq;
@@ -29,7 +29,7 @@ pub trait Asked {
 }
 
 // Whether two did the same and say the same.
-fn is_same<T: Asked>(
+fn is_same<T: Callee>(
     alloc: Global,
     network: &Network,
     one: &mut T,
@@ -41,7 +41,7 @@ fn is_same<T: Asked>(
 }
 
 // What the call answers, asked again where memory was refused.
-fn at_last<T: Asked>(it: &mut T, call: &T::Call) -> T::Answer {
+fn at_last<T: Callee>(it: &mut T, call: &T::Call) -> T::Answer {
     let got = it.answer(call);
     if T::is_refused(&got) {
         return it.answer(call);
@@ -50,7 +50,7 @@ fn at_last<T: Asked>(it: &mut T, call: &T::Call) -> T::Answer {
 }
 
 // Whether the call is answered alike by both, and leaves the first as the second where memory was refused.
-fn call_is_alike<T: Asked>(
+fn call_is_alike<T: Callee>(
     alloc: Global,
     network: &Network,
     one: &mut T,
@@ -68,7 +68,7 @@ fn call_is_alike<T: Asked>(
     Ok(got == wanted && (!T::EACH || is_same(alloc, network, one, other)?))
 }
 
-fn calls_are_alike<T: Asked>(
+fn calls_are_alike<T: Callee>(
     alloc: Global,
     network: &Network,
     one: &mut T,
@@ -86,7 +86,7 @@ fn calls_are_alike<T: Asked>(
 /// Whether each refused call leaves the first of two values, and again answers what it answers of the second.
 ///
 /// The values are left, not dropped.
-pub fn both_are_alike<T: Asked + Drop>(
+pub fn both_are_alike<T: Callee + Drop>(
     alloc: Global,
     network: &Network,
     one: Result<T, AllocError>,

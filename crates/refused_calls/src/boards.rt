@@ -1,6 +1,6 @@
 //! Offers at a board.
 
-use crate::asking::{Asked, both_are_alike};
+use crate::asking::{Callee, both_are_alike};
 use offer_board::BoardState;
 use ranked_policy::Network;
 use snap_collector::{CollectError, Taken};
@@ -18,7 +18,7 @@ fn lost(number: u32) -> Offer {
     })
 }
 
-impl Asked for BoardState {
+impl Callee for BoardState {
     // The number of a snapshot that is lost.
     type Call = u32;
 

@@ -1,6 +1,6 @@
 //! The calls of one router.
 
-use crate::asking::{Asked, both_are_alike};
+use crate::asking::{Callee, both_are_alike};
 use crate::readings::{push, push_router};
 use prefix_lanes::Prefix;
 use ranked_policy::Network;
@@ -42,7 +42,7 @@ fn part(alloc: Global, router: &mut Router<'_>) -> Result<String, AllocError> {
     }
 }
 
-impl Asked for Router<'_> {
+impl Callee for Router<'_> {
     type Call = Call;
 
     type Answer = Result<Stepped, RouterError>;

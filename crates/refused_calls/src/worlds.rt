@@ -1,6 +1,6 @@
 //! Steps of a world.
 
-use crate::asking::{Asked, both_are_alike};
+use crate::asking::{Callee, both_are_alike};
 use crate::readings::{push, push_router};
 use prefix_lanes::Prefix;
 use ranked_policy::Network;
@@ -48,7 +48,7 @@ fn new_world(alloc: Global, network: &Network) -> Result<World<'_>, AllocError> 
     World::new(alloc, network).map_err(|_| AllocError)
 }
 
-impl Asked for World<'_> {
+impl Callee for World<'_> {
     type Call = Event;
 
     type Answer = Result<Stepped, StepFault>;
