@@ -47,18 +47,6 @@ pub struct AskedJob {
     pub size: u32,
 }
 
-// Adds what the program writes for an input, and its status.
-fn add_run<R>(rt: &R, alloc: Global, digest: &mut Digest, word: &str, input: &[u8])
-where
-    R: Threads + Wait + Sync,
-{
-    let mut reader = Watched::new(input);
-    let mut writer = Watched::new(Vec::new(alloc));
-    let ended = run_with(rt, alloc, &[word], &mut reader, &mut writer);
-    digest.add_octets(writer.into_inner().as_slice());
-    digest.add(status_of(ended) as u64);
-}
-
 // So many of something for each unit of size.
 fn times(size: u32, count: u32) -> u32 {
     size.saturating_mul(count).min(1_000_000)
@@ -69,196 +57,161 @@ fn prefixes(size: u32, count: u32) -> u32 {
     size.saturating_mul(count).min(256)
 }
 
-fn add_policies<R>(
-    rt: &R,
+// A job that is done: what its inputs are made of, and the digest of what was written.
+#[derive(Drop)]
+struct Doing<'a, R> {
+    rt: &'a R,
     alloc: Global,
-    digest: &mut Digest,
-    dice: &mut Dice,
+    dice: Dice,
     size: u32,
-) -> Result<(), AllocError>
+    digest: Digest,
+}
+
+impl<'a, R> Doing<'a, R>
 where
     R: Threads + Wait + Sync,
 {
-    let text = gadgets(alloc, dice, 1, times(size, 10_000))?;
-    add_run(rt, alloc, digest, "play", text.as_bytes());
-    let text = gadgets(alloc, dice, 16, times(size, 500))?;
-    add_run(rt, alloc, digest, "play", text.as_bytes());
-    for _ in 0..times(size, 100) {
-        let text = tried(alloc, dice, 400)?;
-        add_run(rt, alloc, digest, "play", text.as_bytes());
+    // Adds what the program writes for an input, and its status.
+    fn add(&mut self, word: &str, input: &[u8]) {
+        let mut reader = Watched::new(input);
+        let mut writer = Watched::new(Vec::new(self.alloc));
+        let ended = run_with(self.rt, self.alloc, &[word], &mut reader, &mut writer);
+        self.digest.add_octets(writer.into_inner().as_slice());
+        self.digest.add(status_of(ended) as u64);
     }
-    Ok(())
-}
 
-fn add_failures<R>(
-    rt: &R,
-    alloc: Global,
-    digest: &mut Digest,
-    dice: &mut Dice,
-    size: u32,
-) -> Result<(), AllocError>
-where
-    R: Threads + Wait + Sync,
-{
-    let plan = Plan {
-        shape: Shape::Random,
-        routers: 64,
-        prefixes: prefixes(size, 16),
-        rounds: times(size, 250),
-    };
-    for is_wide in [false, true] {
-        let text = failures(alloc, dice, &plan, is_wide, times(size, 2))?;
-        add_run(rt, alloc, digest, "play", text.as_bytes());
+    fn add_policies(&mut self) -> Result<(), AllocError> {
+        let text = gadgets(self.alloc, &mut self.dice, 1, times(self.size, 10_000))?;
+        self.add("play", text.as_bytes());
+        let text = gadgets(self.alloc, &mut self.dice, 16, times(self.size, 500))?;
+        self.add("play", text.as_bytes());
+        for _ in 0..times(self.size, 100) {
+            let text = tried(self.alloc, &mut self.dice, 400)?;
+            self.add("play", text.as_bytes());
+        }
+        Ok(())
     }
-    Ok(())
-}
 
-fn add_snapshots<R>(
-    rt: &R,
-    alloc: Global,
-    digest: &mut Digest,
-    dice: &mut Dice,
-    size: u32,
-) -> Result<(), AllocError>
-where
-    R: Threads + Wait + Sync,
-{
-    let line = Plan {
-        shape: Shape::Line,
-        routers: 64,
-        prefixes: 1,
-        rounds: 200,
-    };
-    let text = snapshots(alloc, dice, &line, true, times(size, 4))?;
-    add_run(rt, alloc, digest, "play", text.as_bytes());
-    let ring = Plan {
-        shape: Shape::Ring,
-        routers: 4,
-        prefixes: prefixes(size, 16),
-        rounds: times(size, 40),
-    };
-    let text = snapshots(alloc, dice, &ring, false, times(size, 16))?;
-    add_run(rt, alloc, digest, "play", text.as_bytes());
-    let random = Plan {
-        shape: Shape::Random,
-        routers: 64,
-        prefixes: prefixes(size, 4),
-        rounds: times(size, 100),
-    };
-    let text = snapshots(alloc, dice, &random, false, times(size, 8))?;
-    add_run(rt, alloc, digest, "play", text.as_bytes());
-    Ok(())
-}
-
-fn add_seconds<R>(
-    rt: &R,
-    alloc: Global,
-    digest: &mut Digest,
-    dice: &mut Dice,
-    size: u32,
-) -> Result<(), AllocError>
-where
-    R: Threads + Wait + Sync,
-{
-    let mut plan = Plan {
-        shape: Shape::Random,
-        routers: 64,
-        prefixes: prefixes(size, 1),
-        rounds: 300,
-    };
-    let text = seconds(alloc, dice, &plan, times(size, 150))?;
-    add_run(rt, alloc, digest, "play", text.as_bytes());
-    let text = quiet_seconds(alloc, dice, &plan, times(size, 100))?;
-    add_run(rt, alloc, digest, "play", text.as_bytes());
-    plan.shape = Shape::Mesh;
-    plan.routers = 16;
-    let text = quiet_seconds(alloc, dice, &plan, times(size, 100))?;
-    add_run(rt, alloc, digest, "play", text.as_bytes());
-    plan.shape = Shape::Ring;
-    plan.routers = 32;
-    let text = silences(alloc, dice, &plan, times(size, 6))?;
-    add_run(rt, alloc, digest, "play", text.as_bytes());
-    Ok(())
-}
-
-fn add_traces<R>(
-    rt: &R,
-    alloc: Global,
-    digest: &mut Digest,
-    dice: &mut Dice,
-    size: u32,
-) -> Result<(), AllocError>
-where
-    R: Threads + Wait + Sync,
-{
-    let text = gadget_among(alloc, dice, 56, times(size, 500))?;
-    add_run(rt, alloc, digest, "trace", text.as_bytes());
-    let text = gadgets(alloc, dice, 4, times(size, 500))?;
-    add_run(rt, alloc, digest, "trace", text.as_bytes());
-    let plan = Plan {
-        shape: Shape::Random,
-        routers: 64,
-        prefixes: prefixes(size, 8),
-        rounds: times(size, 150),
-    };
-    let text = failures(alloc, dice, &plan, false, size)?;
-    add_run(rt, alloc, digest, "trace", text.as_bytes());
-    Ok(())
-}
-
-// Adds what `decode` writes for streams of each kind.
-fn add_streams<R>(
-    rt: &R,
-    alloc: Global,
-    digest: &mut Digest,
-    dice: &mut Dice,
-    size: u32,
-) -> Result<(), AllocError>
-where
-    R: Threads + Wait + Sync,
-{
-    let text = stream(alloc, dice, Kind::Table, times(size, 100))?;
-    add_run(rt, alloc, digest, "decode", text.as_bytes());
-    let text = stream(alloc, dice, Kind::Session, times(size, 2000))?;
-    add_run(rt, alloc, digest, "decode", text.as_bytes());
-    let text = stream(alloc, dice, Kind::Table, times(size, 100))?;
-    let text = lines_of(alloc, text.as_str())?;
-    add_run(rt, alloc, digest, "decode", text.as_slice());
-    let text = stream(alloc, dice, Kind::Unknown, times(size, 90))?;
-    add_run(rt, alloc, digest, "decode", text.as_bytes());
-    Ok(())
-}
-
-fn add_texts<R>(
-    rt: &R,
-    alloc: Global,
-    digest: &mut Digest,
-    dice: &mut Dice,
-    size: u32,
-) -> Result<(), AllocError>
-where
-    R: Threads + Wait + Sync,
-{
-    let wide = RuleCounts {
-        routers: 64,
-        prefixes: prefixes(size, 16),
-        rules: times(size, 4).min(64),
-        paths: 8,
-    };
-    let deep = RuleCounts {
-        routers: 64,
-        prefixes: prefixes(size, 4),
-        rules: size.min(64),
-        paths: 32,
-    };
-    for _ in 0..3 {
-        let text = assigned(alloc, dice, &wide)?;
-        add_run(rt, alloc, digest, "check", text.as_bytes());
-        let text = assigned(alloc, dice, &deep)?;
-        add_run(rt, alloc, digest, "check", text.as_bytes());
-        add_streams(rt, alloc, digest, dice, size)?;
+    fn add_failures(&mut self) -> Result<(), AllocError> {
+        let plan = Plan {
+            shape: Shape::Random,
+            routers: 64,
+            prefixes: prefixes(self.size, 16),
+            rounds: times(self.size, 250),
+        };
+        let count = times(self.size, 2);
+        for is_wide in [false, true] {
+            let text = failures(self.alloc, &mut self.dice, &plan, is_wide, count)?;
+            self.add("play", text.as_bytes());
+        }
+        Ok(())
     }
-    Ok(())
+
+    fn add_snapshots(&mut self) -> Result<(), AllocError> {
+        let size = self.size;
+        let line = Plan {
+            shape: Shape::Line,
+            routers: 64,
+            prefixes: 1,
+            rounds: 200,
+        };
+        let text = snapshots(self.alloc, &mut self.dice, &line, true, times(size, 4))?;
+        self.add("play", text.as_bytes());
+        for (shape, routers, named, rounds, count) in [
+            (Shape::Ring, 4, 16, 40, 16),
+            (Shape::Random, 64, 4, 100, 8),
+        ] {
+            let plan = Plan {
+                shape,
+                routers,
+                prefixes: prefixes(size, named),
+                rounds: times(size, rounds),
+            };
+            let text = snapshots(self.alloc, &mut self.dice, &plan, false, times(size, count))?;
+            self.add("play", text.as_bytes());
+        }
+        Ok(())
+    }
+
+    fn add_seconds(&mut self) -> Result<(), AllocError> {
+        let mut plan = Plan {
+            shape: Shape::Random,
+            routers: 64,
+            prefixes: prefixes(self.size, 1),
+            rounds: 300,
+        };
+        let text = seconds(self.alloc, &mut self.dice, &plan, times(self.size, 150))?;
+        self.add("play", text.as_bytes());
+        let text = quiet_seconds(self.alloc, &mut self.dice, &plan, times(self.size, 100))?;
+        self.add("play", text.as_bytes());
+        plan.shape = Shape::Mesh;
+        plan.routers = 16;
+        let text = quiet_seconds(self.alloc, &mut self.dice, &plan, times(self.size, 100))?;
+        self.add("play", text.as_bytes());
+        plan.shape = Shape::Ring;
+        plan.routers = 32;
+        let text = silences(self.alloc, &mut self.dice, &plan, times(self.size, 6))?;
+        self.add("play", text.as_bytes());
+        Ok(())
+    }
+
+    fn add_traces(&mut self) -> Result<(), AllocError> {
+        let text = gadget_among(self.alloc, &mut self.dice, 56, times(self.size, 500))?;
+        self.add("trace", text.as_bytes());
+        let text = gadgets(self.alloc, &mut self.dice, 4, times(self.size, 500))?;
+        self.add("trace", text.as_bytes());
+        let plan = Plan {
+            shape: Shape::Random,
+            routers: 64,
+            prefixes: prefixes(self.size, 8),
+            rounds: times(self.size, 150),
+        };
+        let text = failures(self.alloc, &mut self.dice, &plan, false, self.size)?;
+        self.add("trace", text.as_bytes());
+        Ok(())
+    }
+
+    // Adds what `decode` writes for streams of each kind, one of them in lines.
+    fn add_streams(&mut self) -> Result<(), AllocError> {
+        for (kind, count, has_lines) in [
+            (Kind::Table, 100, false),
+            (Kind::Session, 2000, false),
+            (Kind::Table, 100, true),
+            (Kind::Unknown, 90, false),
+        ] {
+            let text = stream(self.alloc, &mut self.dice, kind, times(self.size, count))?;
+            if has_lines {
+                let text = lines_of(self.alloc, text.as_str())?;
+                self.add("decode", text.as_slice());
+            } else {
+                self.add("decode", text.as_bytes());
+            }
+        }
+        Ok(())
+    }
+
+    fn add_texts(&mut self) -> Result<(), AllocError> {
+        let wide = RuleCounts {
+            routers: 64,
+            prefixes: prefixes(self.size, 16),
+            rules: times(self.size, 4).min(64),
+            paths: 8,
+        };
+        let deep = RuleCounts {
+            routers: 64,
+            prefixes: prefixes(self.size, 4),
+            rules: self.size.min(64),
+            paths: 32,
+        };
+        for _ in 0..3 {
+            let text = assigned(self.alloc, &mut self.dice, &wide)?;
+            self.add("check", text.as_bytes());
+            let text = assigned(self.alloc, &mut self.dice, &deep)?;
+            self.add("check", text.as_bytes());
+            self.add_streams()?;
+        }
+        Ok(())
+    }
 }
 
 /// The digest of what the program writes for the inputs of a job.
@@ -266,16 +219,20 @@ pub fn digest_of<R>(rt: &R, alloc: Global, asked: &AskedJob) -> Result<u64, Allo
 where
     R: Threads + Wait + Sync,
 {
-    let mut digest = Digest::new();
-    let mut dice = Dice::new(asked.seed);
-    let size = asked.size;
+    let mut doing = Doing {
+        rt,
+        alloc,
+        dice: Dice::new(asked.seed),
+        size: asked.size,
+        digest: Digest::new(),
+    };
     match asked.job {
-        Job::Policies => add_policies(rt, alloc, &mut digest, &mut dice, size)?,
-        Job::Failures => add_failures(rt, alloc, &mut digest, &mut dice, size)?,
-        Job::Snapshots => add_snapshots(rt, alloc, &mut digest, &mut dice, size)?,
-        Job::Seconds => add_seconds(rt, alloc, &mut digest, &mut dice, size)?,
-        Job::Traces => add_traces(rt, alloc, &mut digest, &mut dice, size)?,
-        Job::Texts => add_texts(rt, alloc, &mut digest, &mut dice, size)?,
+        Job::Policies => doing.add_policies()?,
+        Job::Failures => doing.add_failures()?,
+        Job::Snapshots => doing.add_snapshots()?,
+        Job::Seconds => doing.add_seconds()?,
+        Job::Traces => doing.add_traces()?,
+        Job::Texts => doing.add_texts()?,
     }
-    Ok(digest.value())
+    Ok(doing.digest.value())
 }

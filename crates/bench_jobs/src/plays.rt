@@ -45,15 +45,25 @@ fn net_of(alloc: Global, dice: &mut Dice, plan: &Plan, least: u32) -> Result<Net
     Ok(net)
 }
 
-// Appends the network, and the orders by which it comes to rest.
-fn push_start(text: &mut String, net: &Net, plan: &Plan) -> Result<(), AllocError> {
-    net.push_to(text)?;
-    net.push_prefixes(text, "origin", plan.prefixes)?;
-    writeln!(text, "schedule")?;
-    net.push_starts(text)?;
-    net.push_prefixes(text, "originate", plan.prefixes)?;
+// A network, and its text behind a head: it comes to rest.
+fn started(
+    alloc: Global,
+    dice: &mut Dice,
+    plan: &Plan,
+    head: &str,
+    least: u32,
+) -> Result<(Net, String), AllocError> {
+    let net = net_of(alloc, dice, plan, least)?;
+    let mut text = String::new(alloc);
+    text.push_str(head)?;
+    net.push_to(&mut text)?;
+    net.push_prefixes(&mut text, "origin", plan.prefixes)?;
+    writeln!(&mut text, "schedule")?;
+    net.push_starts(&mut text)?;
+    net.push_prefixes(&mut text, "originate", plan.prefixes)?;
     let rounds = plan.rounds;
-    writeln!(text, "rounds {rounds}")
+    writeln!(&mut text, "rounds {rounds}")?;
+    Ok((net, text))
 }
 
 // A link of a network, at random.
@@ -73,12 +83,8 @@ pub fn failures(
     is_wide: bool,
     count: u32,
 ) -> Result<String, AllocError> {
-    let mut text = String::new(alloc);
-    if is_wide {
-        writeln!(&mut text, "asn 4")?;
-    }
-    let net = net_of(alloc, dice, plan, if is_wide { WIDE } else { 0 })?;
-    push_start(&mut text, &net, plan)?;
+    let (head, least) = if is_wide { ("asn 4\n", WIDE) } else { ("", 0) };
+    let (net, mut text) = started(alloc, dice, plan, head, least)?;
     for _ in 0..count {
         let link = link_of(&net, dice);
         let one = net.number(link.0);
@@ -104,9 +110,7 @@ pub fn snapshots(
     is_first: bool,
     count: u32,
 ) -> Result<String, AllocError> {
-    let mut text = String::new(alloc);
-    let net = net_of(alloc, dice, plan, 0)?;
-    push_start(&mut text, &net, plan)?;
+    let (net, mut text) = started(alloc, dice, plan, "", 0)?;
     for number in 1..=count {
         let place = if is_first {
             0
@@ -127,9 +131,7 @@ pub fn seconds(
     plan: &Plan,
     count: u32,
 ) -> Result<String, AllocError> {
-    let mut text = String::new(alloc);
-    let net = net_of(alloc, dice, plan, 0)?;
-    push_start(&mut text, &net, plan)?;
+    let (net, mut text) = started(alloc, dice, plan, "", 0)?;
     for _ in 0..count {
         let rounds = dice.below(3).wrapping_add(3);
         writeln!(&mut text, "ticks 1\nrounds {rounds}")?;
@@ -144,10 +146,7 @@ pub fn quiet_seconds(
     plan: &Plan,
     count: u32,
 ) -> Result<String, AllocError> {
-    let mut text = String::new(alloc);
-    writeln!(&mut text, "hold 0")?;
-    let net = net_of(alloc, dice, plan, 0)?;
-    push_start(&mut text, &net, plan)?;
+    let (net, mut text) = started(alloc, dice, plan, "hold 0\n", 0)?;
     writeln!(&mut text, "ticks {count}")?;
     Ok(text)
 }
@@ -160,10 +159,7 @@ pub fn silences(
     plan: &Plan,
     count: u32,
 ) -> Result<String, AllocError> {
-    let mut text = String::new(alloc);
-    writeln!(&mut text, "hold 30\nrestart 5")?;
-    let net = net_of(alloc, dice, plan, 0)?;
-    push_start(&mut text, &net, plan)?;
+    let (net, mut text) = started(alloc, dice, plan, "hold 30\nrestart 5\n", 0)?;
     for _ in 0..count {
         let ticks = dice.below(10).wrapping_add(31);
         writeln!(&mut text, "ticks {ticks}\nrounds 100\nticks 6\nrounds 200")?;
