@@ -21,14 +21,6 @@ phase_of phase.Shut = links.Closed
 phase_of phase.Offered = links.Offered
 phase_of phase.Joined = links.Joined
 
-abbrev pub state_of : State → SessionState
-state_of state.Idle = model.Idle
-state_of state.Connect = model.Connect
-state_of state.Active = model.Active
-state_of state.OpenSent = model.OpenSent
-state_of state.OpenConfirm = model.OpenConfirm
-state_of state.Established = model.Established
-
 -- the phase that a session's state goes with
 abbrev pub phase_in : State → Phase
 phase_in state.Idle = phase.Shut
@@ -44,6 +36,14 @@ pub record Reads (s : Side) (end : End Message) : Type 0 where
   pub is_shut : s.link.heard_is_shut ≡ has_shut (heard_number end) end.taken
   pub acted : (n : ℕ) → s.acted n ≡ updates_in (said n end.used)
   pub sent : (n : ℕ) → s.sent n ≡ updates_in (said n end.appended)
+
+abbrev pub state_of : State → SessionState
+state_of state.Idle = model.Idle
+state_of state.Connect = model.Connect
+state_of state.Active = model.Active
+state_of state.OpenSent = model.OpenSent
+state_of state.OpenConfirm = model.OpenConfirm
+state_of state.Established = model.Established
 
 -- the end with its session's state
 abbrev pub model_side : Side → End Message → model.Side Message
