@@ -70,95 +70,95 @@ fn mark_heard(router: Asn, row: &Row, peer: usize, word: &Word, place: usize, di
     }
 }
 
-// Takes a word of a peer for a prefix, if the network names the prefix.
+// A router that hears a peer: its number, the prefix of each of its rows, and the place of the peer.
+#[derive(Drop)]
+pub(crate) struct Listener<'a> {
+    pub(crate) router: Asn,
+    pub(crate) keys: &'a IndexSet<Prefix>,
+    pub(crate) peer: usize,
+}
+
+// Takes a word of the peer for a prefix, if the network names the prefix.
 pub(crate) fn hear_one(
-    router: Asn,
-    keys: &IndexSet<Prefix>,
+    by: &Listener,
     rows: &mut Vec<Row>,
     dirty: &mut PlaceSet,
-    peer: usize,
     prefix: &Prefix,
     word: Word,
 )
-    requires { (peers : ℕ) × AreFit keys.now.keys peers rows.old.items × (peer < peers) }
-    ensures rows { rows.new.items ≡ map (on prefix.now (hearing peer word)) rows.old.items }
-    ensures dirty { StaysDecided router rows.old.items rows.new.items dirty.old dirty.new }
+    requires { (peers : ℕ) × AreFit by.now.keys.now.keys peers rows.old.items × (by.now.peer < peers) }
+    ensures rows { rows.new.items ≡ map (on prefix.now (hearing by.now.peer word)) rows.old.items }
+    ensures dirty { StaysDecided by.now.router rows.old.items rows.new.items dirty.old dirty.new }
 {
-    if let Some(place) = place_of(keys, prefix) {
+    if let Some(place) = place_of(by.keys, prefix) {
         let row = &mut rows[place];
-        mark_heard(router, row, peer, &word, place, dirty);
-        row.heard.set(peer, word);
+        mark_heard(by.router, row, by.peer, &word, place, dirty);
+        row.heard.set(by.peer, word);
     }
 }
 
-// Takes what an UPDATE of a peer withdraws: the empty path for each prefix that the network names.
-pub(crate) fn hear_withdrawn(
+// Takes what an UPDATE of the peer withdraws: the empty path for each prefix that the network names.
+fn hear_withdrawn(
     alloc: Global,
-    router: Asn,
-    keys: &IndexSet<Prefix>,
+    by: &Listener,
     rows: &mut Vec<Row>,
     dirty: &mut PlaceSet,
-    peer: usize,
     update: &Update,
 )
-    requires { (peers : ℕ) × AreFit keys.now.keys peers rows.old.items × (peer < peers) }
-    ensures rows { rows.new.items ≡ map (hearing_all update.now.withdrawn peer nothing) rows.old.items }
-    ensures dirty { StaysDecided router rows.old.items rows.new.items dirty.old dirty.new }
+    requires { (peers : ℕ) × AreFit by.now.keys.now.keys peers rows.old.items × (by.now.peer < peers) }
+    ensures rows { rows.new.items ≡ map (hearing_all update.now.withdrawn by.now.peer nothing) rows.old.items }
+    ensures dirty { StaysDecided by.now.router rows.old.items rows.new.items dirty.old dirty.new }
 {
     for prefix in update.withdrawn.as_slice() {
         let word = Word::Sequence(Path::new(alloc));
-        hear_one(router, keys, rows, dirty, peer, prefix, word);
+        hear_one(by, rows, dirty, prefix, word);
     }
 }
 
-// Takes the words that a peer announces, for the prefixes that the network names.
-pub(crate) fn hear_announced(
-    router: Asn,
-    keys: &IndexSet<Prefix>,
+// Takes the words that the peer announces, for the prefixes that the network names.
+fn hear_announced(
+    by: &Listener,
     rows: &mut Vec<Row>,
     dirty: &mut PlaceSet,
-    peer: usize,
     update: &Update,
     words: Vec<Word>,
 )
-    requires fit { (peers : ℕ) × AreFit keys.now.keys peers rows.old.items × (peer < peers) }
+    requires fit { (peers : ℕ) × AreFit by.now.keys.now.keys peers rows.old.items × (by.now.peer < peers) }
     requires len { length words.items ≡ length update.now.nlri }
     requires same { All (λ one. one ≡ announced_word update.now.attrs) words.items }
     ensures rows { rows.new.items
-        ≡ map (hearing_all update.now.nlri peer (announced_word update.now.attrs)) rows.old.items }
-    ensures dirty { StaysDecided router rows.old.items rows.new.items dirty.old dirty.new }
+        ≡ map (hearing_all update.now.nlri by.now.peer (announced_word update.now.attrs)) rows.old.items }
+    ensures dirty { StaysDecided by.now.router rows.old.items rows.new.items dirty.old dirty.new }
 {
     let mut words = words;
     for prefix in update.nlri.as_slice() {
         let word = words.pop().unwrap();
-        hear_one(router, keys, rows, dirty, peer, prefix, word);
+        hear_one(by, rows, dirty, prefix, word);
     }
 }
 
-// Takes an UPDATE of a peer. A refusal leaves all as it was.
+// Takes an UPDATE of the peer. A refusal leaves all as it was.
 pub(crate) fn hear_update(
     alloc: Global,
-    router: Asn,
-    keys: &IndexSet<Prefix>,
+    by: &Listener,
     rows: &mut Vec<Row>,
     dirty: &mut PlaceSet,
-    peer: usize,
     update: &Update,
 ) -> Result<(), AllocError>
-    requires { (peers : ℕ) × AreFit keys.now.keys peers rows.old.items × (peer < peers) }
-    ensures rows { OnOk result (rows.new.items ≡ map (hearing_update peer update.now) rows.old.items) }
-    ensures dirty { OnOk result (StaysDecided router rows.old.items rows.new.items dirty.old dirty.new) }
+    requires { (peers : ℕ) × AreFit by.now.keys.now.keys peers rows.old.items × (by.now.peer < peers) }
+    ensures rows { OnOk result (rows.new.items ≡ map (hearing_update by.now.peer update.now) rows.old.items) }
+    ensures dirty { OnOk result (StaysDecided by.now.router rows.old.items rows.new.items dirty.old dirty.new) }
     ensures same_rows { OnErr result (rows.new.items ≡ rows.old.items) }
     ensures same_dirty { OnErr result (dirty.new ≡ dirty.old) }
 {
     if let [prefix] = update.nlri.as_slice() {
         let word = announced(alloc, &update.attrs)?;
-        hear_withdrawn(alloc, router, keys, rows, dirty, peer, update);
-        hear_one(router, keys, rows, dirty, peer, prefix, word);
+        hear_withdrawn(alloc, by, rows, dirty, update);
+        hear_one(by, rows, dirty, prefix, word);
     } else {
         let words = announced_words(alloc, update)?;
-        hear_withdrawn(alloc, router, keys, rows, dirty, peer, update);
-        hear_announced(router, keys, rows, dirty, peer, update, words);
+        hear_withdrawn(alloc, by, rows, dirty, update);
+        hear_announced(by, rows, dirty, update, words);
     }
     Ok(())
 }

@@ -13,8 +13,8 @@ ghost use Rattle.rib_tables.specs.Choices.{IsBest, IsSources};
 ghost use Rattle.rib_tables.specs.Owners.{sources_of, IsSettled, IsServed, HasWaitingPeer, AllServed, IsPending, IsNew, HearsUpdate, TellsKept, ComesUp, ForgetsPeer, Originating, Withdrawing, Decides, Clears};
 
 use crate::changes::{
-    clear_all, forget_all, hear_one, hear_update, keep_at, mark_words, originate_at, place_of,
-    place_of_peer, set_up, tell_at, unadvertised, wait_after_all,
+    Listener, clear_all, forget_all, hear_one, hear_update, keep_at, mark_words, originate_at,
+    place_of, place_of_peer, set_up, tell_at, unadvertised, wait_after_all,
 };
 use crate::opening::{keys_of, no_waits, peers_down, rows_of};
 use crate::place_set::PlaceSet;
@@ -191,9 +191,12 @@ impl<'a> Rib<'a> {
         ensures err { OnErr result (self.new ≡ self.old) }
     {
         let alloc = *self.peers.allocator();
-        let rows = &mut self.rows;
-        let dirty = &mut self.dirty;
-        hear_update(alloc, self.router, &self.keys, rows, dirty, place, update)?;
+        let by = Listener {
+            router: self.router,
+            keys: &self.keys,
+            peer: place,
+        };
+        hear_update(alloc, &by, &mut self.rows, &mut self.dirty, update)?;
         Ok(())
     }
 
@@ -214,9 +217,12 @@ impl<'a> Rib<'a> {
     {
         let alloc = *self.peers.allocator();
         let word = Word::Sequence(Path::from_slice(alloc, path)?);
-        let rows = &mut self.rows;
-        let dirty = &mut self.dirty;
-        hear_one(self.router, &self.keys, rows, dirty, place, prefix, word);
+        let by = Listener {
+            router: self.router,
+            keys: &self.keys,
+            peer: place,
+        };
+        hear_one(&by, &mut self.rows, &mut self.dirty, prefix, word);
         Ok(())
     }
 

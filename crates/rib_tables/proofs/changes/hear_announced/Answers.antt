@@ -11,8 +11,8 @@ use Rattle.rib_tables.proofs.changes.hear_announced.Goals as goal
 
 pub loop-prefix-init : goal.loop-prefix-init
 loop-prefix-init c = record {
-  rows = hears_none c.args.peer (announced_word c.args.update.now.attrs) c.args.rows.now.items;
-  dirty = none_heard c.args.router c.args.rows.now.items c.args.dirty.now;
+  rows = hears_none c.args.by.now.peer (announced_word c.args.update.now.attrs) c.args.rows.now.items;
+  dirty = none_heard c.args.by.now.router c.args.rows.now.items c.args.dirty.now;
   len = omega (arith, c.requires.len, ap (λ (ps : List PrefixView). length ps) c.as_slice-prefix-items.ensures);
   same = c.requires.same;
 }
@@ -20,7 +20,7 @@ loop-prefix-init c = record {
 pub hear_one-requires : goal.hear_one-requires
 hear_one-requires c = (
   c.requires.fit.0,
-  fits_hearing c.args.keys.now.keys c.requires.fit.0 c.args.rows.now.items c.loop-prefix.rows.items (take c.loop-prefix.prefix-index c.as_slice-prefix-items.result.now) c.args.peer (announced_word c.args.update.now.attrs) c.requires.fit.1 c.loop-prefix.invariant.rows,
+  fits_hearing c.args.by.now.keys.now.keys c.requires.fit.0 c.args.rows.now.items c.loop-prefix.rows.items (take c.loop-prefix.prefix-index c.as_slice-prefix-items.result.now) c.args.by.now.peer (announced_word c.args.update.now.attrs) c.requires.fit.1 c.loop-prefix.invariant.rows,
   c.requires.fit.2,
 )
 
@@ -37,11 +37,11 @@ loop-prefix-preserved c =
     record {
       rows =
           c.hear_one.ensures.rows
-          ∙ ap (λ (x : Word). map (on q (hearing c.args.peer x)) c.loop-prefix.rows.items) word
-          ∙ ap (map (on q (hearing c.args.peer a))) c.loop-prefix.invariant.rows
-          ∙ hears_one_more c.args.peer a c.args.rows.now.items (take i ps) q
-          ∙ ap (λ (qs : List PrefixView). map (hearing_all qs c.args.peer a) c.args.rows.now.items) (sym more);
-      dirty = both_heard c.args.router c.args.rows.now.items c.loop-prefix.rows.items c.hear_one.new.rows.items c.args.dirty.now c.loop-prefix.dirty c.hear_one.new.dirty c.loop-prefix.invariant.dirty c.hear_one.ensures.dirty;
+          ∙ ap (λ (x : Word). map (on q (hearing c.args.by.now.peer x)) c.loop-prefix.rows.items) word
+          ∙ ap (map (on q (hearing c.args.by.now.peer a))) c.loop-prefix.invariant.rows
+          ∙ hears_one_more c.args.by.now.peer a c.args.rows.now.items (take i ps) q
+          ∙ ap (λ (qs : List PrefixView). map (hearing_all qs c.args.by.now.peer a) c.args.rows.now.items) (sym more);
+      dirty = both_heard c.args.by.now.router c.args.rows.now.items c.loop-prefix.rows.items c.hear_one.new.rows.items c.args.dirty.now c.loop-prefix.dirty c.hear_one.new.dirty c.loop-prefix.invariant.dirty c.hear_one.ensures.dirty;
       len = let l = ap (λ (ws : List Word). length ws) popped ∙ length-append c.pop.new.self.items (w ∷ []) in let m = c.loop-prefix.invariant.len in omega (arith, l, m);
       same = front_of a c.loop-prefix.words.items c.pop.new.self.items w popped c.loop-prefix.invariant.same;
     }
@@ -49,4 +49,4 @@ loop-prefix-preserved c =
 pub returns-clause-rows : goal.returns-clause-rows
 returns-clause-rows c =
     c.loop-prefix.invariant.rows
-    ∙ ap (λ (qs : List PrefixView). map (hearing_all qs c.args.peer (announced_word c.args.update.now.attrs)) c.args.rows.now.items) (take_all c.loop-prefix.prefix-index c.as_slice-prefix-items.result.now c.loop-prefix-test.false ∙ c.as_slice-prefix-items.ensures)
+    ∙ ap (λ (qs : List PrefixView). map (hearing_all qs c.args.by.now.peer (announced_word c.args.update.now.attrs)) c.args.rows.now.items) (take_all c.loop-prefix.prefix-index c.as_slice-prefix-items.result.now c.loop-prefix-test.false ∙ c.as_slice-prefix-items.ensures)

@@ -7,8 +7,8 @@ use Rattle.rib_tables.proofs.changes.hear_announced.Given as goal
 
 abbrev pub invariant-loop-prefix : goal.invariant-loop-prefix
 invariant-loop-prefix l = record {
-  rows : l.rows.items ≡ map (hearing_all (take l.prefix-index l.prefix-items) l.peer (announced_word l.update.attrs)) l.fn.rows.items;
-  dirty : StaysDecided l.router l.fn.rows.items l.rows.items l.fn.dirty l.dirty;
+  rows : l.rows.items ≡ map (hearing_all (take l.prefix-index l.prefix-items) l.by.peer (announced_word l.update.attrs)) l.fn.rows.items;
+  dirty : StaysDecided l.by.router l.fn.rows.items l.rows.items l.fn.dirty l.dirty;
   len : length l.words.items + l.prefix-index ≡ length l.prefix-items;
   same : All (λ one. one ≡ announced_word l.update.attrs) l.words.items;
 }

@@ -10,19 +10,19 @@ use Rattle.rib_tables.proofs.changes.hear_update.Goals as goal
 
 pub hear_one-requires : goal.hear_one-requires
 hear_one-requires c =
-    (c.requires.0, fits_hearing c.args.keys.now.keys c.requires.0 c.args.rows.now.items c.hear_withdrawn.new.rows.items c.args.update.now.withdrawn c.args.peer nothing c.requires.1 c.hear_withdrawn.ensures.rows, c.requires.2)
+    (c.requires.0, fits_hearing c.args.by.now.keys.now.keys c.requires.0 c.args.rows.now.items c.hear_withdrawn.new.rows.items c.args.update.now.withdrawn c.args.by.now.peer nothing c.requires.1 c.hear_withdrawn.ensures.rows, c.requires.2)
 
 pub hear_announced-requires-clause-fit : goal.hear_announced-requires-clause-fit
 hear_announced-requires-clause-fit c = (
   c.requires.0,
-  fits_hearing c.args.keys.now.keys c.requires.0 c.args.rows.now.items c.hear_withdrawn-in_default.new.rows.items c.args.update.now.withdrawn c.args.peer nothing c.requires.1 c.hear_withdrawn-in_default.ensures.rows,
+  fits_hearing c.args.by.now.keys.now.keys c.requires.0 c.args.rows.now.items c.hear_withdrawn-in_default.new.rows.items c.args.update.now.withdrawn c.args.by.now.peer nothing c.requires.1 c.hear_withdrawn-in_default.ensures.rows,
   c.requires.2,
 )
 
 pub returns-in_ok-word-clause-rows : goal.returns-in_ok-word-clause-rows
 returns-in_ok-word-clause-rows c =
     let u = c.args.update.now in
-    let k = c.args.peer in
+    let k = c.args.by.now.peer in
     let q = c.prefix-item.result in
     let a = announced_word u.attrs in
     let mid = c.hear_withdrawn.new.rows.items in
@@ -32,17 +32,17 @@ returns-in_ok-word-clause-rows c =
 
 pub returns-in_ok-word-clause-dirty : goal.returns-in_ok-word-clause-dirty
 returns-in_ok-word-clause-dirty c =
-    both_heard c.args.router c.args.rows.now.items c.hear_withdrawn.new.rows.items c.hear_one.new.rows.items c.args.dirty.now c.hear_withdrawn.new.dirty c.hear_one.new.dirty c.hear_withdrawn.ensures.dirty c.hear_one.ensures.dirty
+    both_heard c.args.by.now.router c.args.rows.now.items c.hear_withdrawn.new.rows.items c.hear_one.new.rows.items c.args.dirty.now c.hear_withdrawn.new.dirty c.hear_one.new.dirty c.hear_withdrawn.ensures.dirty c.hear_one.ensures.dirty
 
 pub returns-in_ok-words-clause-rows : goal.returns-in_ok-words-clause-rows
 returns-in_ok-words-clause-rows c =
     let u = c.args.update.now in
-    let k = c.args.peer in
+    let k = c.args.by.now.peer in
     let a = announced_word u.attrs in
     c.hear_announced.ensures.rows
     ∙ ap (map (hearing_all u.nlri k a)) c.hear_withdrawn-in_default.ensures.rows ∙ map_after (hearing_all u.withdrawn k nothing) (hearing_all u.nlri k a) (hearing_update k u) (λ r. refl) c.args.rows.now.items
 
 pub returns-in_ok-words-clause-dirty : goal.returns-in_ok-words-clause-dirty
 returns-in_ok-words-clause-dirty c =
-    both_heard c.args.router c.args.rows.now.items c.hear_withdrawn-in_default.new.rows.items c.hear_announced.new.rows.items c.args.dirty.now c.hear_withdrawn-in_default.new.dirty c.hear_announced.new.dirty c.hear_withdrawn-in_default.ensures.dirty
+    both_heard c.args.by.now.router c.args.rows.now.items c.hear_withdrawn-in_default.new.rows.items c.hear_announced.new.rows.items c.args.dirty.now c.hear_withdrawn-in_default.new.dirty c.hear_announced.new.dirty c.hear_withdrawn-in_default.ensures.dirty
     c.hear_announced.ensures.dirty

@@ -9,11 +9,11 @@ use Rattle.rib_tables.proofs.StayingLemmas.{none_heard, both_heard}
 use Rattle.rib_tables.proofs.changes.hear_withdrawn.Goals as goal
 
 pub loop-prefix-init : goal.loop-prefix-init
-loop-prefix-init c = record { rows = hears_none c.args.peer nothing c.args.rows.now.items; dirty = none_heard c.args.router c.args.rows.now.items c.args.dirty.now }
+loop-prefix-init c = record { rows = hears_none c.args.by.now.peer nothing c.args.rows.now.items; dirty = none_heard c.args.by.now.router c.args.rows.now.items c.args.dirty.now }
 
 pub hear_one-requires : goal.hear_one-requires
 hear_one-requires c =
-    (c.requires.0, fits_hearing c.args.keys.now.keys c.requires.0 c.args.rows.now.items c.loop-prefix.rows.items (take c.loop-prefix.prefix-index c.as_slice-prefix-items.result.now) c.args.peer nothing c.requires.1 c.loop-prefix.invariant.rows, c.requires.2)
+    (c.requires.0, fits_hearing c.args.by.now.keys.now.keys c.requires.0 c.args.rows.now.items c.loop-prefix.rows.items (take c.loop-prefix.prefix-index c.as_slice-prefix-items.result.now) c.args.by.now.peer nothing c.requires.1 c.loop-prefix.invariant.rows, c.requires.2)
 
 pub loop-prefix-preserved : goal.loop-prefix-preserved
 loop-prefix-preserved c =
@@ -24,13 +24,13 @@ loop-prefix-preserved c =
     record {
       rows =
           c.hear_one.ensures.rows
-          ∙ ap (λ (p : List ℕ). map (on q (hearing c.args.peer (Sequence p))) c.loop-prefix.rows.items) c.new.ensures
-          ∙ ap (map (on q (hearing c.args.peer nothing))) c.loop-prefix.invariant.rows
-          ∙ hears_one_more c.args.peer nothing c.args.rows.now.items (take i ps) q
-          ∙ ap (λ (qs : List PrefixView). map (hearing_all qs c.args.peer nothing) c.args.rows.now.items) (sym more);
-      dirty = both_heard c.args.router c.args.rows.now.items c.loop-prefix.rows.items c.hear_one.new.rows.items c.args.dirty.now c.loop-prefix.dirty c.hear_one.new.dirty c.loop-prefix.invariant.dirty c.hear_one.ensures.dirty;
+          ∙ ap (λ (p : List ℕ). map (on q (hearing c.args.by.now.peer (Sequence p))) c.loop-prefix.rows.items) c.new.ensures
+          ∙ ap (map (on q (hearing c.args.by.now.peer nothing))) c.loop-prefix.invariant.rows
+          ∙ hears_one_more c.args.by.now.peer nothing c.args.rows.now.items (take i ps) q
+          ∙ ap (λ (qs : List PrefixView). map (hearing_all qs c.args.by.now.peer nothing) c.args.rows.now.items) (sym more);
+      dirty = both_heard c.args.by.now.router c.args.rows.now.items c.loop-prefix.rows.items c.hear_one.new.rows.items c.args.dirty.now c.loop-prefix.dirty c.hear_one.new.dirty c.loop-prefix.invariant.dirty c.hear_one.ensures.dirty;
     }
 
 pub returns-clause-rows : goal.returns-clause-rows
 returns-clause-rows c =
-    c.loop-prefix.invariant.rows ∙ ap (λ (qs : List PrefixView). map (hearing_all qs c.args.peer nothing) c.args.rows.now.items) (take_all c.loop-prefix.prefix-index c.as_slice-prefix-items.result.now c.loop-prefix-test.false ∙ c.as_slice-prefix-items.ensures)
+    c.loop-prefix.invariant.rows ∙ ap (λ (qs : List PrefixView). map (hearing_all qs c.args.by.now.peer nothing) c.args.rows.now.items) (take_all c.loop-prefix.prefix-index c.as_slice-prefix-items.result.now c.loop-prefix-test.false ∙ c.as_slice-prefix-items.ensures)
