@@ -1,12 +1,12 @@
 -- How many items the pipes of a router hold: where a link joins it to a peer, as many as the network says.
-use Rattle.std.proofs.Common.{◌≡◌, ◌≢◌, ℕ, suc, ◌<◌, ◌==◌, arith, Bool, true, false, cond, ◌&&◌, List, [], ◌∷◌, ◌++◌, length, map, refl, sym, ap, ◌∙◌, subst}
+use Rattle.std.proofs.Common.{◌≡◌, ℕ, suc, ◌<◌, ◌==◌, arith, Bool, true, false, cond, ◌&&◌, List, [], ◌∷◌, ◌++◌, map, refl, sym, ap, ◌∙◌, subst}
 use Rattle.std.specs.Prelude.{◌||◌}
 use Rattle.std.specs.List.{AllByRecursion, AllPairs, list_any}
 use Rattle.std.proofs.lemmas.Bool.{eq-eqb, ne_eqb, eqb-true, eqb-false}
 use Rattle.ranked_policy.specs.declared.network.Link.{Link}
 use Rattle.ranked_policy.specs.Plans.{Plan, numbers}
 use Rattle.ruled_pipe.specs.Ends.{TableId}
-use Rattle.router_model.specs.Settings.{joins, linked}
+use Rattle.router_model.specs.Settings.{joins}
 use Rattle.net_workers.specs.declared.worker_pipes.PipePair.{PipePair}
 use Rattle.net_workers.specs.declared.running.Finished.{Finished}
 use Rattle.net_workers.specs.Lanes.{Wire, wire_of, room_of}

@@ -13,7 +13,7 @@ use Rattle.ranked_policy.specs.Plans.{Plan, IsRouter, numbers}
 use Rattle.outbox.specs.declared.item.Item.{Item}
 use Rattle.outbox.specs.declared.item.What.{What}
 use Rattle.run_model.specs.Network as runs
-use Rattle.run_model.specs.Network.{Journal, alone, puts, takes, offers, opening, Run}
+use Rattle.run_model.specs.Network.{Journal, alone, puts, takes, offers, opening}
 use Rattle.run_model.specs.Journals.{puts_towards, takes_from, events_of, IsJournal}
 use Rattle.run_model.specs.CausalOrder.{closing, CausalOrdersEndAlike}
 use Rattle.run_model.specs.Offers.{HasOutcome}

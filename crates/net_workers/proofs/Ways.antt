@@ -1,5 +1,5 @@
 -- The ways between routers, as the pairs of the workers were.
-use Rattle.std.proofs.Common.{◌≡◌, ℕ, suc, ◌<◌, None, ◌==◌, Bool, true, false, cond, List, [], ◌∷◌, length, map, refl, ap, sym, ◌∙◌, subst, arith}
+use Rattle.std.proofs.Common.{◌≡◌, ℕ, suc, ◌<◌, None, ◌==◌, Bool, true, false, cond, List, [], ◌∷◌, length, map, refl, ap, sym, ◌∙◌, subst}
 use mathlib.Core.List.{IsPrefix}
 use Rattle.std.specs.Prelude.{IfNone, slice_index_or}
 use Rattle.std.specs.List.{AllByRecursion}

@@ -1,11 +1,8 @@
 -- A router of a network has one table of policies, and so one best path.
 use Rattle.std.proofs.Common.{◌≡◌, ◌≢◌, ℕ, List, [], sym, ap, subst, ◌∙◌, inl, inr}
-use Rattle.std.specs.Prelude.{◌↔◌}
 use Rattle.std.specs.List.{Contains}
 use Rattle.prefix_lanes.specs.Bits.{PrefixView}
-use Rattle.ranked_policy.specs.declared.network.Origin.{Origin}
-use Rattle.ranked_policy.specs.Plans.{Plan, IsOrigin}
-use Rattle.ranked_policy.specs.Policies.{Table, IsTable, IsTableOf, Originates}
+use Rattle.ranked_policy.specs.Policies.{Table, IsTable}
 use Rattle.ranked_policy.specs.Promises.{EachPolicyIsAnOrder}
 use Rattle.rib_tables.specs.declared.word.Word.TheVariants.{Sequence}
 use Rattle.rib_tables.specs.Words.{path_in}

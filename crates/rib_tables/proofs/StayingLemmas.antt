@@ -4,7 +4,6 @@ use Rattle.std.specs.List.{slice_get}
 use Rattle.std.proofs.lemmas.List.{length-set}
 use Rattle.std.proofs.lemmas.Option.{slice_get_within, same_Some}
 use Rattle.std.proofs.lemmas.Bool.{cases_eq}
-use Rattle.prefix_lanes.specs.Bits.{PrefixView}
 use Rattle.ranked_policy.specs.Choosing.{chosen_permits, chosen_prefers}
 use Rattle.ranked_policy.specs.Choices.{IsFirstOrNone, IsTaken}
 use Rattle.ranked_policy.specs.Plans.{Plan, IsNetwork}

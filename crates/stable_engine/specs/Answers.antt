@@ -1,5 +1,5 @@
 -- The text printed of all stable assignments of a network, prefix by prefix.
-use Rattle.std.specs.Prelude.{◌≡◌, ◌≢◌, ℕ, Bool, List, [], ◌∷◌, ◌++◌, length, map, codes, Result, Ok, Err, is_ok, if◌then◌else◌, ◌⊎◌}
+use Rattle.std.specs.Prelude.{◌≡◌, ◌≢◌, ℕ, Bool, List, [], ◌∷◌, ◌++◌, map, codes, Result, Ok, Err, is_ok, if◌then◌else◌, ◌⊎◌}
 use Rattle.std.specs.List.{All, flat_map, list_all}
 use Rattle.prefix_lanes.specs.Bits.{PrefixView}
 use Rattle.ranked_policy.specs.Plans.{Plan}

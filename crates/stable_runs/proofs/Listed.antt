@@ -1,17 +1,16 @@
 -- A settled snapshot is a stable assignment, and so one of those that are listed.
-use Rattle.std.proofs.Common.{◌≡◌, ℕ, zero, suc, ◌<◌, ◌==◌, Bool, true, false, cond, List, [], ◌∷◌, length, map, refl, sym, ap, subst, ◌∙◌, arith, inl, inr, Ok}
-use Rattle.std.specs.List.{All, Any, Contains}
+use Rattle.std.proofs.Common.{◌≡◌, ℕ, zero, suc, ◌==◌, Bool, true, false, cond, List, [], ◌∷◌, length, map, refl, sym, subst, ◌∙◌, arith, inl}
+use Rattle.std.specs.List.{Any, Contains}
 use Rattle.std.proofs.lemmas.Bool.{eqb-true, eqb-false}
 use Rattle.prefix_lanes.specs.Bits.{PrefixView}
-use Rattle.ranked_policy.specs.Plans.{IsRouter, IsOrigin}
+use Rattle.ranked_policy.specs.Plans.{IsOrigin}
 use Rattle.ranked_policy.proofs.PlaceLemmas.{one_origin}
-use Rattle.stable_paths.specs.Stable.{IsStable}
 use Rattle.stable_search.specs.declared.every.Every.{Every}
 use Rattle.stable_search.specs.declared.every.Component.{Component}
 use Rattle.stable_search.specs.Every.{HasChoice, IsEveryStable}
 use Rattle.run_model.specs.Offers.{Settled}
 use Rattle.snap_marker.specs.Recordings.{RouterPart}
-use Rattle.router_model.specs.Settings.{Setting, IsSetting, names, is_router}
+use Rattle.router_model.specs.Settings.{Setting, IsSetting, names}
 use Rattle.router_runs.specs.Runs.{RunOrder, RunState, IsRunTo}
 use Rattle.router_runs.specs.Snapshots.{HasMade, HaveMade, ComesOut, AsOriginated, SettledIsStable}
 use Rattle.run_cuts.specs.ThroughSnapshot.{DecidedRunsPassThrough}

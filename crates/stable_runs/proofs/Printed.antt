@@ -1,5 +1,5 @@
 -- The routes that are printed of a settled snapshot are a stable assignment, and so one of those that are printed.
-use Rattle.std.proofs.Common.{◌≡◌, ℕ, true, subst, Ok}
+use Rattle.std.proofs.Common.{true, subst}
 use Rattle.text_engines.specs.Checking.{at_prefix}
 use Rattle.stable_search.specs.Every.{IsEveryStable}
 use Rattle.stable_engine.specs.Answers.{Found, Answer, IsFound}

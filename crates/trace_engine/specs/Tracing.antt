@@ -1,5 +1,5 @@
 -- The text of a trace: the run of a schedule as orders, with comments on orders that stood for many events.
-use Rattle.std.specs.Prelude.{◌≡◌, ◌≢◌, ℕ, zero, suc, ◌+◌, ◌-◌, ◌==◌, List, [], ◌∷◌, ◌++◌, length, Option, None, Some, Result, Ok, Err, MatchResult, codes, decimal, if◌then◌else◌, ◌⊎◌}
+use Rattle.std.specs.Prelude.{◌≡◌, ◌≢◌, ℕ, ◌+◌, ◌-◌, ◌==◌, List, [], ◌∷◌, ◌++◌, length, Option, None, Some, Result, Ok, MatchResult, codes, decimal, if◌then◌else◌, ◌⊎◌}
 use Rattle.ranked_policy.specs.Plans.{Plan}
 use Rattle.router_model.specs.Settings.{Setting, ChoosesByRank}
 use Rattle.world_core.specs.declared.schedule.Event.{Event}

@@ -3,14 +3,14 @@ use Rattle.std.proofs.Common.{◌≡◌, ℕ, ◌<◌, ap, sym, subst, ◌∙◌
 use Rattle.std.proofs.lemmas.Bool.{false≢true}
 use Rattle.std.proofs.lemmas.List.{length-map, get_or-map}
 use Rattle.ranked_policy.specs.declared.network.NetRouter as network
-use Rattle.ranked_policy.specs.Plans.{Plan, IsRouter, numbers}
+use Rattle.ranked_policy.specs.Plans.{Plan, IsRouter}
 use Rattle.ranked_policy.specs.Policies.{Table, IsTableOf}
 use Rattle.ranked_policy.proofs.OneTable.{one_table}
-use Rattle.router_model.specs.Settings.{Setting, IsSetting, is_router}
+use Rattle.router_model.specs.Settings.{Setting, is_router}
 use Rattle.world_core.proofs.Stepping.{known}
 use Rattle.text_engines.specs.declared.status.TheConstants.{DONE}
 use Rattle.text_engines.specs.Decoding.{output}
-use Rattle.why_engine.specs.Explaining.{Explains, why_text}
+use Rattle.why_engine.specs.Explaining.{why_text}
 use Rattle.why_engine.specs.Laws.{EachRouterHasOneText}
 
 -- who has policies is a router

@@ -1,13 +1,11 @@
-use Rattle.std.proofs.Common.{◌≡◌, ◌∙◌, ℕ, ap, sym, refl, subst, inl, inr, None, [], map, List}
+use Rattle.std.proofs.Common.{◌≡◌, ◌∙◌, ℕ, ap, sym, refl, subst, inl, inr, None, []}
 use Rattle.ranked_policy.specs.Plans.{IsRouter}
 use Rattle.snap_marker.specs.Parts.{router_of}
 use Rattle.std.specs.List.{AllByRecursion}
 use Rattle.offer_board.specs.Boards.{offers_in}
 use Rattle.snap_collector.specs.Collector.{made_for, with_offers}
-use Rattle.worker_loop.specs.declared.journal.WorkerEvent.{WorkerEvent}
 use Rattle.net_workers.specs.Ran.{Passed, first_fault, passed_by, OffersOf, IsRecord, AreRecord}
 use Rattle.net_workers.specs.Faults.{HaveEnded}
-use Rattle.net_workers.specs.Gathered.{all_events, IsSorted}
 use Rattle.net_workers.specs.Ways.{passed_in}
 use Rattle.net_workers.proofs.Records.{record_is}
 use Rattle.net_workers.proofs.Faults.{wants_memory}

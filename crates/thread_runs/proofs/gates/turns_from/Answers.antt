@@ -1,4 +1,4 @@
-use Rattle.std.proofs.Common.{◌≡◌, ℕ, zero, suc, ◌+◌, ◌-◌, ◌/◌, ◌%◌, ◌<◌, ◌∙◌, refl, sym, arith}
+use Rattle.std.proofs.Common.{◌≡◌, ℕ, zero, suc, ◌+◌, ◌-◌, ◌<◌, ◌∙◌, refl, sym, arith}
 use Rattle.thread_runs.proofs.GateLemmas.{turn_still, no_spacing}
 use Rattle.thread_runs.proofs.gates.turns_from.Goals as goal
 

@@ -1,4 +1,4 @@
-use Rattle.std.proofs.Common.{◌≡◌, ℕ, ◌+◌, ◌-◌, ◌<◌, length, arith, subst}
+use Rattle.std.proofs.Common.{◌≡◌, ℕ, ◌+◌, ◌-◌, length, arith, subst}
 use Rattle.worker_loop.specs.declared.chore.Chore.TheVariants.{Turn}
 use Rattle.thread_runs.specs.Gates.{script_of, later_chore}
 use Rattle.thread_runs.proofs.GateLemmas.{behind_still}
