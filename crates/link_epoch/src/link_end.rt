@@ -97,19 +97,19 @@ impl LinkEnd {
         self.epoch
     }
 
-    /// Where the end stands.
-    pub fn phase(&self) -> Phase
-        ensures { result ≡ self.now.phase }
-    {
-        self.phase
-    }
-
     /// Whether the peer waits in a number that this end can join: one above its own that is not
     /// shut. A `dial` joins exactly then.
     pub fn is_joinable(&self) -> bool
         ensures { result ≡ is_joinable self.now }
     {
         self.epoch < self.heard && !self.heard_is_shut
+    }
+
+    /// Where the end stands.
+    pub fn phase(&self) -> Phase
+        ensures { result ≡ self.now.phase }
+    {
+        self.phase
     }
 
     /// Dials the peer's number if the peer waits there, else the least number above all that this
