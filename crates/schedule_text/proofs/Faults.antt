@@ -14,7 +14,8 @@ use Rattle.net_text.proofs.StepLemmas.{NoMemory, plain, either_way, one_by_one}
 use Rattle.schedule_text.specs.declared.operands.TheConstants.{MOST_COUNT}
 use Rattle.schedule_text.specs.declared.keyword.Keyword.{Keyword}
 use Rattle.schedule_text.specs.declared.keyword.Keyword.TheVariants as keyword
-use Rattle.schedule_text.specs.Schedules.{is_within, router_operand, peer_operands, prefix_operands, number_operands, count_operand, ordered, keyword_of, keyword_order, words_order, line_order, IsFaulty, IsGood, IsFirstFault, RefusesSchedule}
+use Rattle.schedule_text.specs.Keywords.{keyword_of}
+use Rattle.schedule_text.specs.Schedules.{is_within, router_operand, peer_operands, prefix_operands, number_operands, count_operand, ordered, keyword_order, words_order, line_order, IsFaulty, IsGood, IsFirstFault, RefusesSchedule}
 use Rattle.std.specs.Prelude.{IsOk}
 use Rattle.std.specs.List.{All}
 use Rattle.world_core.specs.declared.schedule.Order.{Order}

@@ -15,7 +15,8 @@ use Rattle.net_text.specs.Layout.{WordsStandBetweenBlanks}
 use Rattle.net_text.specs.Words.{◌>>=◌, number_word, router_word, origin_word}
 use Rattle.schedule_text.specs.declared.keyword.Keyword.{Keyword}
 use Rattle.schedule_text.specs.declared.keyword.Keyword.TheVariants as keyword
-use Rattle.schedule_text.specs.Schedules.{is_within, router_operand, peer_operands, prefix_operands, number_operands, count_operand, step_of, keyword_of, ordered, keyword_order, words_order, line_order}
+use Rattle.schedule_text.specs.Schedules.{is_within, router_operand, peer_operands, prefix_operands, number_operands, count_operand, ordered, keyword_order, words_order, line_order}
+use Rattle.schedule_text.specs.Keywords.{word_of, keywords, keyword_among, keyword_of}
 use Rattle.schedule_text.specs.Sayings.{NamesRouter, NamesPeers, NamesPrefix, NamesNumber, NamesCount, Say, SaysOrder, LinesAreReadAsTheySay}
 
 -- ---- the first word
@@ -28,42 +29,18 @@ same_true (x ∷ xs) (y ∷ ys) h =
     let parts = and_parts (x == y) (same xs ys) h in
     ap (λ (k : ℕ). k ∷ xs) (eqb-true x y parts.0) ∙ ap (λ (t : Text). y ∷ t) (same_true xs ys parts.1)
 
-abbrev name_of : Keyword → Text
-name_of keyword.Start = codes "start"
-name_of keyword.Stop = codes "stop"
-name_of keyword.Reset = codes "reset"
-name_of keyword.Originate = codes "originate"
-name_of keyword.Withdraw = codes "withdraw"
-name_of keyword.Snapshot = codes "snapshot"
-name_of keyword.Restart = codes "restart"
-name_of keyword.Tick = codes "tick"
-name_of keyword.Put = codes "put"
-name_of keyword.Take = codes "take"
-name_of keyword.Handle = codes "handle"
-name_of keyword.Decide = codes "decide"
-name_of keyword.Advertise = codes "advertise"
-name_of keyword.Offer = codes "offer"
-name_of keyword.Rounds = codes "rounds"
-name_of keyword.Ticks = codes "ticks"
-
-pick_by : (name : Text) (this k : Keyword) (rest : Option Keyword) (b : Bool) → same name (name_of this) ≡ b → (rest ≡ Some k → name ≡ name_of k) → cond b (Some this) rest ≡ Some k → name ≡ name_of k
+pick_by : (name : Text) (this k : Keyword) (rest : Option Keyword) (b : Bool) → same name (word_of this) ≡ b → (rest ≡ Some k → name ≡ word_of k) → cond b (Some this) rest ≡ Some k → name ≡ word_of k
 pick_by name this k rest true is go h =
     let found : this ≡ k = cc in
-    same_true name (name_of this) is ∙ ap name_of found
+    same_true name (word_of this) is ∙ ap word_of found
 pick_by name this k rest false is go h = go h
 
-pick : (name : Text) (this k : Keyword) (rest : Option Keyword) → (rest ≡ Some k → name ≡ name_of k) → cond (same name (name_of this)) (Some this) rest ≡ Some k → name ≡ name_of k
-pick name this k rest go h = pick_by name this k rest (same name (name_of this)) refl go h
+pick : (name : Text) (this k : Keyword) (rest : Option Keyword) → (rest ≡ Some k → name ≡ word_of k) → cond (same name (word_of this)) (Some this) rest ≡ Some k → name ≡ word_of k
+pick name this k rest go h = pick_by name this k rest (same name (word_of this)) refl go h
 
-step_is : (name : Text) (k : Keyword) → step_of name ≡ Some k → name ≡ name_of k
-step_is name k =
-    pick name keyword.Tick k _ (pick name keyword.Put k _ (pick name keyword.Take k _ (pick name keyword.Handle k _ (pick name keyword.Decide k _
-    (pick name keyword.Advertise k _ (pick name keyword.Offer k _ (pick name keyword.Rounds k _ (pick name keyword.Ticks k None (λ h. absurd (cc))))))))))
-
-keyword_is : (name : Text) (k : Keyword) → keyword_of name ≡ Some k → name ≡ name_of k
-keyword_is name k =
-    pick name keyword.Start k _ (pick name keyword.Stop k _ (pick name keyword.Reset k _ (pick name keyword.Originate k _ (pick name keyword.Withdraw k _
-    (pick name keyword.Snapshot k _ (pick name keyword.Restart k (step_of name) (step_is name k)))))))
+keyword_is : (ks : List Keyword) (name : Text) (k : Keyword) → keyword_among ks name ≡ Some k → name ≡ word_of k
+keyword_is [] name k h = absurd cc
+keyword_is (this ∷ ks) name k h = pick name this k (keyword_among ks name) (keyword_is ks name k) h
 
 -- ---- what is read is said
 
@@ -114,7 +91,7 @@ made net words r f o h says =
     let is : f b.0 ≡ o = (let e = b.2 in cc) in
     subst (λ (k : Order). Say net k words) is (says b.0 b.1)
 
-ordered_said : (net : Plan) (k : Keyword) (words : List Text) (o : Order) → ordered net k words ≡ Ok o → Say net o (name_of k ∷ words)
+ordered_said : (net : Plan) (k : Keyword) (words : List Text) (o : Order) → ordered net k words ≡ Ok o → Say net o (word_of k ∷ words)
 ordered_said net keyword.Start words o h = made net _ (peer_operands net words) _ o h (peers_said net (codes "start") words)
 ordered_said net keyword.Stop words o h = made net _ (peer_operands net words) _ o h (peers_said net (codes "stop") words)
 ordered_said net keyword.Reset words o h = made net _ (peer_operands net words) _ o h (peers_said net (codes "reset") words)
@@ -137,7 +114,7 @@ keyword_said net name words o None is h = absurd cc
 keyword_said net name words o (Some k) is h =
     let b = bound (ordered net k words) _ (Some o) h in
     let same_order : b.0 ≡ o = (let e = b.2 in cc) in
-    subst (λ (n : Text). Say net o (n ∷ words)) (sym (keyword_is name k is)) (ordered_said net k words o (b.1 ∙ ap (λ (x : Order). Ok x) same_order))
+    subst (λ (n : Text). Say net o (n ∷ words)) (sym (keyword_is keywords name k is)) (ordered_said net k words o (b.1 ∙ ap (λ (x : Order). Ok x) same_order))
 
 words_said : (net : Plan) (words : List Text) (o : Order) → words_order net words ≡ Ok (Some o) → Say net o words
 words_said net [] o h = absurd cc

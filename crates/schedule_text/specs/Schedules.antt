@@ -1,5 +1,5 @@
 -- Schedule texts: the order of each line, by its first word and the words behind that; whole texts, and the first faulty line.
-use Rattle.std.specs.Prelude.{ℕ, ◌≡◌, ◌+◌, ◌-◌, ◌^◌, ◌&&◌, not, nat_le, Bool, List, [], ◌∷◌, ◌++◌, length, Option, Some, None, Result, Ok, Err, IsOk, if◌then◌else◌, codes}
+use Rattle.std.specs.Prelude.{ℕ, ◌≡◌, ◌+◌, ◌-◌, ◌^◌, ◌&&◌, not, nat_le, Bool, List, [], ◌∷◌, ◌++◌, length, Option, Some, None, Result, Ok, Err, IsOk, if◌then◌else◌}
 use Rattle.std.specs.List.{All}
 use Rattle.prefix_lanes.specs.Bits.{PrefixView}
 use Rattle.ranked_policy.specs.Plans.{Plan}
@@ -10,38 +10,13 @@ use Rattle.world_core.specs.declared.schedule.Order.{Order}
 use Rattle.world_core.specs.declared.schedule.Order.TheVariants as order
 use Rattle.net_text.specs.declared.code.Code.{Code}
 use Rattle.net_text.specs.declared.code.Code.TheVariants as kinds
-use Rattle.net_text.specs.Lexing.{Text, same, words_of, is_skipped, is_ascii}
+use Rattle.net_text.specs.Lexing.{Text, words_of, is_skipped, is_ascii}
 use Rattle.net_text.specs.Words.{◌>>=◌, number_word, router_word, origin_word}
 use Rattle.schedule_text.specs.declared.operands.TheConstants.{MOST_COUNT}
 use Rattle.schedule_text.specs.declared.keyword.Keyword.{Keyword}
 use Rattle.schedule_text.specs.declared.keyword.Keyword.TheVariants as keyword
 use Rattle.schedule_text.specs.declared.schedule.ScheduledOrder.{ScheduledOrder}
-
--- ---- the first word
-
-abbrev pub step_of : Text → Option Keyword
-step_of name =
-    if same name (codes "tick") then Some keyword.Tick
-    else if same name (codes "put") then Some keyword.Put
-    else if same name (codes "take") then Some keyword.Take
-    else if same name (codes "handle") then Some keyword.Handle
-    else if same name (codes "decide") then Some keyword.Decide
-    else if same name (codes "advertise") then Some keyword.Advertise
-    else if same name (codes "offer") then Some keyword.Offer
-    else if same name (codes "rounds") then Some keyword.Rounds
-    else if same name (codes "ticks") then Some keyword.Ticks
-    else None
-
-abbrev pub keyword_of : Text → Option Keyword
-keyword_of name =
-    if same name (codes "start") then Some keyword.Start
-    else if same name (codes "stop") then Some keyword.Stop
-    else if same name (codes "reset") then Some keyword.Reset
-    else if same name (codes "originate") then Some keyword.Originate
-    else if same name (codes "withdraw") then Some keyword.Withdraw
-    else if same name (codes "snapshot") then Some keyword.Snapshot
-    else if same name (codes "restart") then Some keyword.Restart
-    else step_of name
+use Rattle.schedule_text.specs.Keywords.{keyword_of}
 
 -- ---- the words behind it, judged from left to right
 

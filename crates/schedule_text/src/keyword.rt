@@ -1,8 +1,7 @@
 //! The first words of schedule lines.
 
 ghost use Rattle.std.specs.Prelude.{◌≡◌};
-ghost use Rattle.schedule_text.specs.Schedules.{keyword_of};
-ghost use Rattle.schedule_text.specs.Keywords.{keyword_if, keyword_in_s, keyword_in_r, keyword_in_t, keyword_in_o};
+ghost use Rattle.schedule_text.specs.Keywords.{keyword_of};
 
 use net_text::lexing::same;
 
@@ -43,75 +42,6 @@ pub(crate) enum Keyword {
     Ticks,
 }
 
-// The keyword that a word is, of those that begin with an s.
-fn keyword_in_s(name: &[u8]) -> Option<Keyword>
-    ensures { result ≡ keyword_in_s name.now }
-{
-    if same(name, b"start") {
-        Some(Keyword::Start)
-    } else if same(name, b"stop") {
-        Some(Keyword::Stop)
-    } else if same(name, b"snapshot") {
-        Some(Keyword::Snapshot)
-    } else {
-        None
-    }
-}
-
-// The keyword that a word is, of those that begin with an r.
-fn keyword_in_r(name: &[u8]) -> Option<Keyword>
-    ensures { result ≡ keyword_in_r name.now }
-{
-    if same(name, b"reset") {
-        Some(Keyword::Reset)
-    } else if same(name, b"restart") {
-        Some(Keyword::Restart)
-    } else if same(name, b"rounds") {
-        Some(Keyword::Rounds)
-    } else {
-        None
-    }
-}
-
-// The keyword that a word is, of those that begin with a t.
-fn keyword_in_t(name: &[u8]) -> Option<Keyword>
-    ensures { result ≡ keyword_in_t name.now }
-{
-    if same(name, b"tick") {
-        Some(Keyword::Tick)
-    } else if same(name, b"take") {
-        Some(Keyword::Take)
-    } else if same(name, b"ticks") {
-        Some(Keyword::Ticks)
-    } else {
-        None
-    }
-}
-
-// The keyword that a word is, of those that begin with an o.
-fn keyword_in_o(name: &[u8]) -> Option<Keyword>
-    ensures { result ≡ keyword_in_o name.now }
-{
-    if same(name, b"originate") {
-        Some(Keyword::Originate)
-    } else if same(name, b"offer") {
-        Some(Keyword::Offer)
-    } else {
-        None
-    }
-}
-
-// The keyword, if a word is this one.
-fn keyword_if(name: &[u8], word: &[u8], keyword: Keyword) -> Option<Keyword>
-    ensures { result ≡ keyword_if name.now word.now keyword }
-{
-    if same(name, word) {
-        Some(keyword)
-    } else {
-        None
-    }
-}
-
 /// The keyword that a word is. Its first octet leaves at most three.
 pub(crate) fn keyword_of(name: &[u8]) -> Option<Keyword>
     ensures { result ≡ keyword_of name.now }
@@ -120,15 +50,22 @@ pub(crate) fn keyword_of(name: &[u8]) -> Option<Keyword>
         return None;
     };
     match *first {
-        b's' => keyword_in_s(name),
-        b'r' => keyword_in_r(name),
-        b't' => keyword_in_t(name),
-        b'o' => keyword_in_o(name),
-        b'p' => keyword_if(name, b"put", Keyword::Put),
-        b'h' => keyword_if(name, b"handle", Keyword::Handle),
-        b'd' => keyword_if(name, b"decide", Keyword::Decide),
-        b'a' => keyword_if(name, b"advertise", Keyword::Advertise),
-        b'w' => keyword_if(name, b"withdraw", Keyword::Withdraw),
+        b'a' if same(name, b"advertise") => Some(Keyword::Advertise),
+        b'd' if same(name, b"decide") => Some(Keyword::Decide),
+        b'h' if same(name, b"handle") => Some(Keyword::Handle),
+        b'o' if same(name, b"originate") => Some(Keyword::Originate),
+        b'o' if same(name, b"offer") => Some(Keyword::Offer),
+        b'p' if same(name, b"put") => Some(Keyword::Put),
+        b'r' if same(name, b"reset") => Some(Keyword::Reset),
+        b'r' if same(name, b"restart") => Some(Keyword::Restart),
+        b'r' if same(name, b"rounds") => Some(Keyword::Rounds),
+        b's' if same(name, b"start") => Some(Keyword::Start),
+        b's' if same(name, b"stop") => Some(Keyword::Stop),
+        b's' if same(name, b"snapshot") => Some(Keyword::Snapshot),
+        b't' if same(name, b"tick") => Some(Keyword::Tick),
+        b't' if same(name, b"take") => Some(Keyword::Take),
+        b't' if same(name, b"ticks") => Some(Keyword::Ticks),
+        b'w' if same(name, b"withdraw") => Some(Keyword::Withdraw),
         _ => None,
     }
 }
