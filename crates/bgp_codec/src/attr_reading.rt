@@ -113,32 +113,8 @@ fn add_value(
     Ok(())
 }
 
-// Takes an attribute of a new code. The checks in order: an unknown one is optional, then the
-// flags, the length and the value by the table.
-fn add_new(
-    alloc: Global,
-    width: Width,
-    attrs: &mut Attrs,
-    attr: &[u8],
-    value: &[u8],
-) -> Result<(), CodecError>
-    requires { has_code (in_order attrs.old) (slice_index attr.now 1) ≡ false }
-    ensures { Gives (λ _. in_order attrs.new) result (with_attr width (in_order attrs.old) attr.now value.now) }
-{
-    let (flags, code) = (octet_at(attr, 0), octet_at(attr, 1));
-    if !is_known(code) {
-        return add_other(alloc, attrs, attr, value);
-    }
-    if !flags_fit(code, flags) {
-        return Err(attr_fault(alloc, ATTRIBUTE_FLAGS_ERROR, attr));
-    }
-    if !size_fits(width, code, value.len()) {
-        return Err(attr_fault(alloc, ATTRIBUTE_LENGTH_ERROR, attr));
-    }
-    add_value(alloc, width, attrs, attr, value)
-}
-
-// Takes one more attribute. A code that came before has a mark in `came`, and is refused.
+// Takes one more attribute. The checks in order: a code that came before, which has a mark in `came`, is refused; an
+// unknown one is optional; then the flags, the length and the value by the table.
 fn add_attr(
     alloc: Global,
     width: Width,
@@ -151,13 +127,21 @@ fn add_attr(
     ensures gives { Gives (λ _. in_order attrs.new) result (with_attr width (in_order attrs.old) attr.now value.now) }
     ensures marks { OnOk result (Marks came.new (in_order attrs.new)) }
 {
-    let code = octet_at(attr, 1);
+    let (flags, code) = (octet_at(attr, 0), octet_at(attr, 1));
     if came[code as usize] {
         return Err(update_fault(alloc, MALFORMED_ATTRIBUTE_LIST));
     }
-    add_new(alloc, width, attrs, attr, value)?;
     came[code as usize] = true;
-    Ok(())
+    if !is_known(code) {
+        return add_other(alloc, attrs, attr, value);
+    }
+    if !flags_fit(code, flags) {
+        return Err(attr_fault(alloc, ATTRIBUTE_FLAGS_ERROR, attr));
+    }
+    if !size_fits(width, code, value.len()) {
+        return Err(attr_fault(alloc, ATTRIBUTE_LENGTH_ERROR, attr));
+    }
+    add_value(alloc, width, attrs, attr, value)
 }
 
 // How many attributes the octets have that the table does not know, if the octets are good: the

@@ -50,11 +50,7 @@ pub(crate) fn open_fault(alloc: Global, sub: u8) -> CodecError
 pub(crate) fn update_fault(alloc: Global, sub: u8) -> CodecError
     ensures { result ≡ CodecError.Fault (update_fault sub) }
 {
-    CodecError::Fault(Fault {
-        code: UPDATE_MESSAGE_ERROR,
-        sub,
-        extra: Octets::short(alloc, &[]),
-    })
+    attr_fault(alloc, sub, &[])
 }
 
 // The fault of an UPDATE with this subcode and an attribute as its data, or want of memory, which an

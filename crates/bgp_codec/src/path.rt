@@ -78,36 +78,6 @@ pub struct Segment {
     pub numbers: Numbers,
 }
 
-// The numbers of two octets each.
-fn read_of_two(alloc: Global, octets: &[u8]) -> Result<Numbers, AllocError>
-    ensures numbers { IfOk result (λ numbers. numbers ≡ numbers_of Two octets.now) }
-    ensures short { length octets.now ≤ 16 → IsOk result }
-{
-    let mut numbers = SmallVec::new(alloc);
-    numbers.reserve(octets.len() / 2)?;
-    let mut left = octets;
-    'numbers: while let [high, low, rest @ ..] = left {
-        numbers.push(Asn::from(u16::from_be_bytes([*high, *low])))?;
-        left = rest;
-    }
-    Ok(Numbers { numbers })
-}
-
-// The numbers of four octets each.
-fn read_of_four(alloc: Global, octets: &[u8]) -> Result<Numbers, AllocError>
-    ensures numbers { IfOk result (λ numbers. numbers ≡ numbers_of Four octets.now) }
-    ensures short { length octets.now ≤ 32 → IsOk result }
-{
-    let mut numbers = SmallVec::new(alloc);
-    numbers.reserve(octets.len() / 4)?;
-    let mut left = octets;
-    'numbers: while let [a, b, c, d, rest @ ..] = left {
-        numbers.push(u32::from_be_bytes([*a, *b, *c, *d]))?;
-        left = rest;
-    }
-    Ok(Numbers { numbers })
-}
-
 /// Reads AS numbers of this width, as [`put_numbers`] appends them. Refused only for want of
 /// memory, and never for eight numbers or fewer.
 pub fn read_numbers(alloc: Global, width: Width, octets: &[u8]) -> Result<Numbers, AllocError>
@@ -115,10 +85,24 @@ pub fn read_numbers(alloc: Global, width: Width, octets: &[u8]) -> Result<Number
     ensures numbers { IfOk result (λ numbers. numbers ≡ numbers_of width octets.now) }
     ensures whole { (count : ℕ) → length octets.now ≡ asn_size width * count → AreNumbers width count octets.now }
 {
+    let mut numbers = SmallVec::new(alloc);
+    numbers.reserve(octets.len() / asn_size(width))?;
+    let mut left = octets;
     match width {
-        Width::Two => read_of_two(alloc, octets),
-        Width::Four => read_of_four(alloc, octets),
+        Width::Two => {
+            'two: while let [high, low, rest @ ..] = left {
+                numbers.push(Asn::from(u16::from_be_bytes([*high, *low])))?;
+                left = rest;
+            }
+        }
+        Width::Four => {
+            'four: while let [a, b, c, d, rest @ ..] = left {
+                numbers.push(u32::from_be_bytes([*a, *b, *c, *d]))?;
+                left = rest;
+            }
+        }
     }
+    Ok(Numbers { numbers })
 }
 
 // The kind of the segment in front, the octets of its numbers, and what follows it, if it is good.
