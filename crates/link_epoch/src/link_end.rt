@@ -71,7 +71,8 @@ impl Model for LinkEnd {
 
     ghost Value = { LinkView };
 
-    ghost view = { λ a. record { epoch = a.epoch; heard = a.heard; heard_is_shut = a.heard_is_shut; phase = a.phase } };
+    ghost view = { λ a.
+        record { epoch = a.epoch; heard = a.heard; heard_is_shut = a.heard_is_shut; phase = a.phase } };
 
     ghost inverse = { λ d.
         record { epoch = d.epoch; heard = d.heard; heard_is_shut = d.heard_is_shut; phase = d.phase } };
