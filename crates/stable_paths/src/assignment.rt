@@ -33,9 +33,9 @@ impl Model for Assignment {
 
     ghost Value = { List Assigned };
 
-    ghost view = { λ a. a.paths.items };
-
     ghost invariant = { λ a. Rise a.paths.items };
+
+    ghost view = { λ a. a.paths.items };
 }
 
 // The place of the router, or the place where it belongs.
