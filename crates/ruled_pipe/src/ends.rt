@@ -1,8 +1,11 @@
 //! The two ends of a pipe.
 
-ghost use Rattle.std.specs.Prelude.{◌≡◌, ◌≤◌, ◌<◌, [], length, IsTrue, IfOk, IfErr, OnOk, OnErr, MatchOption};
-ghost use Rattle.ruled_pipe.specs.Ends.{end_at, with_item};
+ghost use Rattle.std.specs.Prelude.{◌≡◌, ◌≤◌, ◌<◌, [], length, true, false, IsTrue, IfOk, IfErr, OnOk, OnErr, MatchOption};
+ghost use Rattle.std.specs.Arc.{arc_value};
+ghost use Rattle.crossbeam_queue.specs.Passes.{IsPassOf, ruled_capacity};
+ghost use Rattle.ruled_pipe.specs.Ends.{End, end_at, with_item};
 ghost use Rattle.ruled_pipe.specs.Refusals.{refusal_of};
+ghost use Rattle.ruled_pipe.specs.Rule.{log, known};
 
 use crate::log::Log;
 use crate::refusal::PipeError;
@@ -26,21 +29,6 @@ pub struct PutEnd<T> {
     pub(crate) seat: Pass<T, Log<T>>,
 }
 
-impl<T> Model for PutEnd<T> {
-    ghost use Rattle.std.specs.Prelude.{◌≡◌, true, false, []};
-    ghost use Rattle.std.specs.Arc.{arc_value};
-    ghost use Rattle.crossbeam_queue.specs.Passes.{IsPassOf, ruled_capacity};
-    ghost use Rattle.ruled_pipe.specs.Rule.{log, known};
-    ghost use Rattle.ruled_pipe.specs.Ends.{End, end_at};
-
-    ghost Value = { End T };
-
-    ghost view = { λ e. end_at e.seat.table_id (ruled_capacity (arc_value e.line)) (known e.seat).put };
-
-    ghost invariant = { λ e. IsPassOf (arc_value e.line) e.seat
-        × (known e.seat ≡ log true false (known e.seat).put []) };
-}
-
 /// The end that takes. Contracts see which pipe it is of, how many items that holds at most, and the
 /// items that this end has taken, oldest first.
 #[derive(Drop)]
@@ -49,13 +37,16 @@ pub struct TakeEnd<T> {
     pub(crate) seat: Pass<T, Log<T>>,
 }
 
-impl<T> Model for TakeEnd<T> {
-    ghost use Rattle.std.specs.Prelude.{◌≡◌, true, false, []};
-    ghost use Rattle.std.specs.Arc.{arc_value};
-    ghost use Rattle.crossbeam_queue.specs.Passes.{IsPassOf, ruled_capacity};
-    ghost use Rattle.ruled_pipe.specs.Rule.{log, known};
-    ghost use Rattle.ruled_pipe.specs.Ends.{End, end_at};
+impl<T> Model for PutEnd<T> {
+    ghost Value = { End T };
 
+    ghost view = { λ e. end_at e.seat.table_id (ruled_capacity (arc_value e.line)) (known e.seat).put };
+
+    ghost invariant = { λ e. IsPassOf (arc_value e.line) e.seat
+        × (known e.seat ≡ log true false (known e.seat).put []) };
+}
+
+impl<T> Model for TakeEnd<T> {
     ghost Value = { End T };
 
     ghost view = { λ e. end_at e.seat.table_id (ruled_capacity (arc_value e.line)) (known e.seat).taken };
