@@ -1,5 +1,50 @@
 //! The texts of the helps below their options.
 
+// A help whose example is a network of two routers: what is said of the input, and all from the network's lines on.
+macro_rules! two_routers {
+    ($said:literal, $($behind:literal),*) => {
+        concat!("The input is a network", $said, ":
+
+    router 1 10.0.0.1
+    router 2 10.0.0.2
+    link 1 2
+    origin 1 10.1.0.0/16
+", $($behind),*, "
+
+Status 0: done. 1: a refused input. 2: other words than these. 3: memory was refused ('memory').
+4: a read or a write failed.")
+    };
+}
+
+// One whose network then plays: what stands behind its rounds.
+macro_rules! two_routers_play {
+    ($said:literal, $behind:literal) => {
+        two_routers!($said, "    schedule
+    start 1 2
+    start 2 1
+    originate 1 10.1.0.0/16
+    rounds 40
+", $behind)
+    };
+}
+
+// A help whose example is a network of three routers, the second of which would rather go through the third.
+macro_rules! three_routers {
+    ($said:literal, $behind:literal) => {
+        concat!("The input is a network", $said, ":
+
+    router 1 10.0.0.1
+    router 2 10.0.0.2
+    router 3 10.0.0.3
+    link 1 2
+    link 1 3
+    link 2 3
+    origin 1 10.1.0.0/16
+    rank 2 10.1.0.0/16 2-3-1 2-1
+", $behind)
+    };
+}
+
 /// The help of the program below its words: the lines of a network, their limits, the codes of
 /// refusals, and the statuses.
 pub const TOP_HELP: &str = "\
@@ -75,18 +120,9 @@ Status 0: all was read. 1: a fault, a truncated end, or a refused input. 2: othe
 3: memory was refused ('memory'). 4: a read or a write failed.";
 
 /// The help of `check` below its options: an example, and the statuses.
-pub const CHECK_HELP: &str = "\
-The input is a network, a line 'assignment', and the path of each router and prefix:
-
-    router 1 10.0.0.1
-    router 2 10.0.0.2
-    router 3 10.0.0.3
-    link 1 2
-    link 1 3
-    link 2 3
-    origin 1 10.1.0.0/16
-    rank 2 10.1.0.0/16 2-3-1 2-1
-    assignment
+pub const CHECK_HELP: &str = three_routers!(
+    ", a line 'assignment', and the path of each router and prefix",
+    "    assignment
     path 1 10.1.0.0/16 1
     path 2 10.1.0.0/16 2-1
     path 3 10.1.0.0/16 3-1
@@ -100,21 +136,13 @@ A path is its routers, the router itself first and the origin last, or 'none'. A
 output is 'stable'. 'bgpnet --help' has the lines of a network and the codes of refusals.
 
 Status 0: it is judged. 1: a refused input. 2: other words than these. 3: memory was refused ('memory').
-4: a read or a write failed.";
+4: a read or a write failed."
+);
 
 /// The help of `stable` below its options: an example, and the statuses.
-pub const STABLE_HELP: &str = "\
-The input is a network; what stands behind a line 'assignment' or 'schedule' is left out:
-
-    router 1 10.0.0.1
-    router 2 10.0.0.2
-    router 3 10.0.0.3
-    link 1 2
-    link 1 3
-    link 2 3
-    origin 1 10.1.0.0/16
-    rank 2 10.1.0.0/16 2-3-1 2-1
-    rank 3 10.1.0.0/16 3-2-1 3-1
+pub const STABLE_HELP: &str = three_routers!(
+    "; what stands behind a line 'assignment' or 'schedule' is left out",
+    "    rank 3 10.1.0.0/16 3-2-1 3-1
 
 Each of 2 and 3 would rather go through the other, so two assignments of paths are stable, and the
 output is
@@ -138,22 +166,13 @@ than N choices (--most). 'steps U V ..': their search would take more than N ste
 lines of a network.
 
 Status 0: done. 1: a refused input. 2: other words than these. 3: memory was refused ('memory').
-4: a read or a write failed. 5: done, and a prefix is unknown.";
+4: a read or a write failed. 5: done, and a prefix is unknown."
+);
 
 /// The help of `play` below its options: an example, the orders, and the statuses.
-pub const PLAY_HELP: &str = "\
-The input is a network, a line 'schedule', and the orders of the schedule:
-
-    router 1 10.0.0.1
-    router 2 10.0.0.2
-    link 1 2
-    origin 1 10.1.0.0/16
-    schedule
-    start 1 2
-    start 2 1
-    originate 1 10.1.0.0/16
-    rounds 40
-
+pub const PLAY_HELP: &str = two_routers_play!(
+    ", a line 'schedule', and the orders of the schedule",
+    "
 Both routers start their session and router 1 originates the prefix, so the output is
 
     now
@@ -164,20 +183,13 @@ An order is 'start U V', 'stop U V' or 'reset U V' for U's session with V, 'orig
 'withdraw U PREFIX', 'snapshot U S', 'restart U'; one step of U: 'tick U', 'put U V', 'take U V',
 'handle U V', 'decide U', 'advertise U', 'offer U'; or 'rounds N', N turns of each router, or
 'ticks N', N seconds. 'refused LINE CODE' names the first line that can't be read, else the first
-order that is refused; 'bgpnet --help' has the codes, and the lines of a network.
-
-Status 0: done. 1: a refused input. 2: other words than these. 3: memory was refused ('memory').
-4: a read or a write failed.";
+order that is refused; 'bgpnet --help' has the codes, and the lines of a network."
+);
 
 /// The help of `trace` below its options: an example, and the statuses.
-pub const TRACE_HELP: &str = "\
-The input is a network, a line 'schedule', and the orders of the schedule, as 'play --help' says:
-
-    router 1 10.0.0.1
-    router 2 10.0.0.2
-    link 1 2
-    origin 1 10.1.0.0/16
-    schedule
+pub const TRACE_HELP: &str = two_routers!(
+    ", a line 'schedule', and the orders of the schedule, as 'play --help' says",
+    "    schedule
     originate 1 10.1.0.0/16
     rounds 2
 
@@ -200,25 +212,13 @@ router records.
 
 A 'rounds' line ends as soon as a round does nothing. 'no rest by round N': each of them did
 something. 'nothing to do': the order of that line found nothing to do. Where an order is refused the
-last line is '# refused LINE CODE', and where a line can't be read 'refused LINE CODE' stands alone.
-
-Status 0: done. 1: a refused input. 2: other words than these. 3: memory was refused ('memory').
-4: a read or a write failed.";
+last line is '# refused LINE CODE', and where a line can't be read 'refused LINE CODE' stands alone."
+);
 
 /// The help of `cut` below its options: an example, and the statuses.
-pub const CUT_HELP: &str = "\
-The input is a network, a line 'schedule', and the orders of the schedule, as 'play --help' says:
-
-    router 1 10.0.0.1
-    router 2 10.0.0.2
-    link 1 2
-    origin 1 10.1.0.0/16
-    schedule
-    start 1 2
-    start 2 1
-    originate 1 10.1.0.0/16
-    rounds 40
-    withdraw 1 10.1.0.0/16
+pub const CUT_HELP: &str = two_routers_play!(
+    ", a line 'schedule', and the orders of the schedule, as 'play --help' says",
+    "    withdraw 1 10.1.0.0/16
     decide 1
     advertise 1
     snapshot 1 1
@@ -236,25 +236,13 @@ The schedule did 48 events, 34 of them up to each router's recording of the snap
 included. The routes are those that the routers recorded. 'flight V U' and a message, as 'decode'
 prints it, is an UPDATE that was on its way from V to U: by U, then V, in the order in which U acted
 on them. Some order of the same events passes through just this state. 'cut S none': snapshot S is
-not decided at the end, or it was abandoned. 'refused LINE CODE' is as for 'play'.
-
-Status 0: done. 1: a refused input. 2: other words than these. 3: memory was refused ('memory').
-4: a read or a write failed.";
+not decided at the end, or it was abandoned. 'refused LINE CODE' is as for 'play'."
+);
 
 /// The help of `why` below its options: an example, and the statuses.
-pub const WHY_HELP: &str = "\
-The input is a network, a line 'schedule', and the orders of the schedule, as 'play --help' says:
-
-    router 1 10.0.0.1
-    router 2 10.0.0.2
-    link 1 2
-    origin 1 10.1.0.0/16
-    schedule
-    start 1 2
-    start 2 1
-    originate 1 10.1.0.0/16
-    rounds 40
-
+pub const WHY_HELP: &str = two_routers_play!(
+    ", a line 'schedule', and the orders of the schedule, as 'play --help' says",
+    "
 Router 2 keeps the path that router 1 told it, and tells it so, so 'why 2' prints
 
     router 2
@@ -269,20 +257,13 @@ octets wait to be put towards V; 'on its way': something of V was not taken or n
 V said last, and what the router makes of it: 'loop', the router stands in it; 'not permitted', its
 policy has not the path along it; or that path, its place in the 'rank' line, and whether it is kept.
 'told V W': these were told what it keeps. 'refused 0 N3': the network has no such router. 'refused
-LINE CODE' is as for 'play'.
-
-Status 0: done. 1: a refused input. 2: other words than these. 3: memory was refused ('memory').
-4: a read or a write failed.";
+LINE CODE' is as for 'play'."
+);
 
 /// The help of `run` below its options: an example, and the statuses.
-pub const RUN_HELP: &str = "\
-The input is a network:
-
-    router 1 10.0.0.1
-    router 2 10.0.0.2
-    link 1 2
-    origin 1 10.1.0.0/16
-
+pub const RUN_HELP: &str = two_routers!(
+    "",
+    "
 Each router runs in a thread of its own: it starts its sessions, originates its prefixes, and then
 takes turns, N chores in all. The least router takes the snapshots 1 to K, evenly spaced. Where one
 of them found the network at rest, every prefix originated, the output is the routes of the first
@@ -293,20 +274,13 @@ that did
 
 and 'unsettled' where none did, which says nothing about the network. 'refused LINE CODE' names the
 first line that can't be read; 'refused 0 G3' says that N leaves no room for the snapshots, or is not 1
-to 1000000. 'bgpnet --help' has the codes, and the lines of a network.
-
-Status 0: done. 1: a refused input. 2: other words than these. 3: memory was refused ('memory').
-4: a read or a write failed.";
+to 1000000. 'bgpnet --help' has the codes, and the lines of a network."
+);
 
 /// The help of `record` below its options: an example, and the statuses.
-pub const RECORD_HELP: &str = "\
-The input is a network:
-
-    router 1 10.0.0.1
-    router 2 10.0.0.2
-    link 1 2
-    origin 1 10.1.0.0/16
-
+pub const RECORD_HELP: &str = two_routers!(
+    "",
+    "
 Each router runs in a thread of its own, as 'run --help' says. The output is the network's lines, the
 line 'schedule', each event that the threads did as an order, and as comments what they ended in, so
 that it is an input for 'play', 'trace' and 'cut'. It begins so:
@@ -321,7 +295,5 @@ that it is an input for 'play', 'trace' and 'cut'. It begins so:
 What comes behind differs from run to run; it ends with '# snapshot S ..', how each snapshot came out,
 '# now', and '# route U Q PATH', the paths that the routers keep. 'play' leads there each time, and says
 the same; with '--turns 2000' and '--snapshots 4' the output is short. 'refused LINE CODE' is as for
-'run'. An output of more than 16777216 octets is no input: its last line says so.
-
-Status 0: done. 1: a refused input. 2: other words than these. 3: memory was refused ('memory').
-4: a read or a write failed.";
+'run'. An output of more than 16777216 octets is no input: its last line says so."
+);
