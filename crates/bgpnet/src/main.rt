@@ -6,10 +6,10 @@
 //! and what failed, as [`error_words::said`] answers.
 //!
 //! Its one contract is that of the engine that the words ask for: `text_engines::decode_stream` for `bgpnet decode`,
-//! `text_engines::check_stream` for `bgpnet check`, `stable_engine::stable_stream` for `bgpnet stable`,
-//! `play_engine::play_stream` for `bgpnet play`, `play_engine::cut_stream` for `bgpnet cut`, `play_engine::why_stream`
-//! for `bgpnet why`, `trace_engine::trace_stream` for `bgpnet trace`, `run_engine::run_stream` for `bgpnet run`,
-//! `record_engine::record_stream` for `bgpnet record`. The definitions stand in their `specs/`.
+//! `run_engine::network_output` for `bgpnet run`, `record_engine::network_output` for `bgpnet record`, and
+//! `text_engines::answer_input` over an engine for the others: `text_engines::CheckEngine` for `bgpnet check`,
+//! `stable_engine::StableEngine` for `bgpnet stable`, `play_engine::Shown` for `bgpnet play`, `bgpnet cut` and `bgpnet
+//! why`, `trace_engine::TraceEngine` for `bgpnet trace`. The definitions stand in their `specs/`.
 #![tactic(auto)]
 
 use command_line::{run_with, status_of};

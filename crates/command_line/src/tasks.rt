@@ -4,17 +4,17 @@ ghost use Rattle.text_engines.specs.Engine.{IsAnswered};
 ghost use Rattle.command_line.specs.Tasks.{TaskPrints, ThreadsPrint};
 
 use bgp_codec::Rule;
-use play_engine::{cut_stream, play_stream, why_stream};
+use play_engine::Shown;
 use record_engine::record_stream;
 use run_engine::run_stream;
-use stable_engine::stable_stream;
+use stable_engine::StableEngine;
 use stable_search::SearchLimits;
 use std::alloc::Global;
 use std::sync::Wait;
 use std::thread::Threads;
-use text_engines::{IoStopped, Sink, Source, check_stream, decode_stream};
+use text_engines::{CheckEngine, IoStopped, Sink, Source, answer_input, decode_stream};
 use thread_runs::RunOptions;
-use trace_engine::trace_stream;
+use trace_engine::TraceEngine;
 
 /// A task that starts no thread.
 #[derive(Clone, Copy)]
@@ -57,12 +57,16 @@ pub fn run_task<S: Source, T: Sink>(
 {
     match task {
         Task::Decode(rule) => decode_stream(alloc, &rule, reader, writer),
-        Task::Check => check_stream(alloc, reader, writer),
-        Task::Play => play_stream(alloc, reader, writer),
-        Task::Trace(shows_octets) => trace_stream(alloc, shows_octets, reader, writer),
-        Task::Cut(number) => cut_stream(alloc, number, reader, writer),
-        Task::Why(number) => why_stream(alloc, number, reader, writer),
-        Task::Stable(limits) => stable_stream(alloc, &limits, reader, writer),
+        Task::Check => answer_input(alloc, &CheckEngine, reader, writer),
+        Task::Play => answer_input(alloc, &Shown::Report, reader, writer),
+        Task::Trace(shows_octets) => {
+            answer_input(alloc, &TraceEngine { shows_octets }, reader, writer)
+        }
+        Task::Cut(number) => answer_input(alloc, &Shown::Cut(number), reader, writer),
+        Task::Why(number) => answer_input(alloc, &Shown::Why(number), reader, writer),
+        Task::Stable(limits) => {
+            answer_input(alloc, &StableEngine { limits: &limits }, reader, writer)
+        }
     }
 }
 

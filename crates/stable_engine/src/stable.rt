@@ -3,14 +3,13 @@
 ghost use Rattle.std.specs.Prelude.{◌≡◌, IfOk};
 ghost use Rattle.net_text.specs.Lexing.{lines_of};
 ghost use Rattle.text_engines.specs.Decoding.{output};
-ghost use Rattle.text_engines.specs.Engine.{IsAnswered};
-ghost use Rattle.stable_engine.specs.Answers.{network_lines, LinesList, Lists};
+ghost use Rattle.stable_engine.specs.Answers.{network_lines, LinesList};
 
 use crate::prefixes::stables_output;
 use net_text::{read_network, split_at_section};
 use stable_search::SearchLimits;
 use std::alloc::{AllocError, Global};
-use text_engines::{Engine, IoStopped, Sink, Source, answer_input, text_output};
+use text_engines::{Engine, text_output};
 
 // The lines of a network, without those of an assignment or a schedule behind it.
 fn network_part(input: &[u8]) -> &[u8]
@@ -34,10 +33,13 @@ fn lines_output(
     }
 }
 
-// What `stable` answers: a network, whose assignments are searched for within these limits.
+/// The engine of `stable`: it reads a network, and writes all of its stable assignments, prefix by prefix; or the first
+/// line that is refused. What stands behind a line `assignment` or `schedule` is left out. Its status is
+/// [`UNKNOWN`](crate::status::UNKNOWN) where of a prefix a limit was met.
 #[derive(Drop)]
-struct StableEngine<'a> {
-    limits: &'a SearchLimits,
+pub struct StableEngine<'a> {
+    /// The limits within which the assignments of each dispute are searched for.
+    pub limits: &'a SearchLimits,
 }
 
 impl Engine for StableEngine<'_> {
@@ -46,20 +48,4 @@ impl Engine for StableEngine<'_> {
     fn answer(&self, alloc: Global, text: &[u8]) -> Result<(Vec<u8>, u8), AllocError> {
         lines_output(alloc, self.limits, network_part(text))
     }
-}
-
-/// Reads a network, and writes all of its stable assignments, prefix by prefix; or the first line that is refused.
-/// What stands behind a line `assignment` or `schedule` is left out. It answers the status:
-/// [`UNKNOWN`](crate::status::UNKNOWN) where of a prefix a limit was met.
-/// It ends as [`text_engines::answer_by`] does if memory is refused, or a read or a write fails.
-pub fn stable_stream<S: Source, T: Sink>(
-    alloc: Global,
-    limits: &SearchLimits,
-    source: &mut S,
-    sink: &mut T,
-) -> Result<u8, IoStopped>
-    ensures { IsAnswered (Lists limits.now) (S.remaining source.old) (T.contents sink.old) (T.contents sink.new)
-        (S.failed source.old) (S.failed source.new) (T.failed sink.old) (T.failed sink.new) result }
-{
-    answer_input(alloc, &StableEngine { limits }, source, sink)
 }

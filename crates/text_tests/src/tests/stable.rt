@@ -3,7 +3,7 @@
 use std::alloc::{AllocError, Global};
 use std::process::Abort;
 use std::test::Fail;
-use text_engines::{Watched, check_stream};
+use text_engines::{CheckEngine, Watched, answer_input};
 
 // A network, whose router 1 has its own path, the other routers, each with the paths that it may be given, and how many
 // of the assignments are stable.
@@ -103,7 +103,7 @@ fn assignment(alloc: Global, counted: &Counted, number: usize) -> Result<String,
 fn is_stable(alloc: Global, input: &str) -> bool {
     let mut reader = Watched::new(input.as_bytes());
     let mut writer = Watched::new(Vec::new(alloc));
-    let status = check_stream(alloc, &mut reader, &mut writer).ok();
+    let status = answer_input(alloc, &CheckEngine, &mut reader, &mut writer).ok();
     let out: Vec<u8> = writer.into_inner();
     out.as_slice() == b"stable\n".as_slice() && status == Some(0)
 }
