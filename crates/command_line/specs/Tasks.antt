@@ -1,12 +1,13 @@
 -- The text printed for a task.
 use Rattle.std.specs.Prelude.{ℕ, List}
+use Rattle.net_text.specs.Lexing.{Text}
 use Rattle.text_engines.specs.Decoding.{Output, Prints}
 use Rattle.text_engines.specs.Checking.{Checks}
 use Rattle.play_engine.specs.Playing.{Plays}
 use Rattle.play_engine.specs.Cutting.{Cuts, Whys}
 use Rattle.trace_engine.specs.Tracings.{Traces}
-use Rattle.run_engine.specs.Running.{Runs}
-use Rattle.record_engine.specs.Recording.{Records}
+use Rattle.run_engine.specs.Running.{LinesRun, Runs}
+use Rattle.record_engine.specs.Recording.{LinesRecord, Records}
 use Rattle.stable_engine.specs.Answers.{Lists}
 use Rattle.command_line.specs.declared.tasks.Task.{Task}
 use Rattle.command_line.specs.declared.tasks.Task.TheVariants as task
@@ -22,6 +23,11 @@ TaskPrints (task.Trace shows_octets) = Traces
 TaskPrints (task.Cut s) = Cuts s
 TaskPrints (task.Why u) = Whys u
 TaskPrints (task.Stable limits) = Lists limits
+
+-- the text that a task of threads prints for the lines of a network
+abbrev pub LinesPrintBy : ThreadTask → List Text → Output → Type 0
+LinesPrintBy (threads.Run options) = LinesRun options
+LinesPrintBy (threads.Record options) = LinesRecord options
 
 -- the text that a task of threads prints for an input
 abbrev pub ThreadsPrint : ThreadTask → List ℕ → Output → Type 0

@@ -2,10 +2,10 @@
 //!
 //! [`read_words`] says what the words ask for: a [`Task`] that starts no thread, a [`ThreadTask`], or a text, which is
 //! a help or what is wrong with the words. [`run_task`] and [`run_thread_task`] hand a task to an engine of
-//! `text_engines`, `stable_engine`, `play_engine`, `trace_engine`, `run_engine` or `record_engine`: a function over a
-//! reader and a writer that says exactly what it writes for what it reads. They say the same. `run_task` has no bound
-//! by which it could wait for a thread: it returns. [`run_with`] does what the words ask for, and may wait. It answers
-//! a status exactly where no read and no write failed. [`status_of`] is the status that the program ends with.
+//! `text_engines`, `stable_engine`, `play_engine`, `trace_engine`, `run_engine` or `record_engine`, and their contracts
+//! say exactly what is written for what is read. `run_task` has no bound by which it could wait for a thread: it
+//! returns. [`run_with`] does what the words ask for, and may wait. It answers a status exactly where no read and no
+//! write failed. [`status_of`] is the status that the program ends with.
 #![tactic(auto)]
 
 ghost use Rattle.std.specs.Prelude.{◌≡◌, true, false, ◌⊎◌, IfOk, IsErr, OnOk, OnErr};
@@ -28,17 +28,13 @@ use text_engines::{IoStopped, Sink, Source, want_of_memory, write_out};
 pub use words::{Asked, read_words};
 
 /// Runs the program on the words behind its name, and answers its status.
-pub fn run_with<R, S, T>(
+pub fn run_with<R: Threads + Wait + Sync, S: Source, T: Sink>(
     rt: &R,
     alloc: Global,
     words: &[&str],
     reader: &mut S,
     writer: &mut T,
 ) -> Result<u8, IoStopped>
-where
-    R: Threads + Wait + Sync,
-    S: Source,
-    T: Sink,
     ensures unfailed { OnOk result
         ((S.failed reader.new ≡ S.failed reader.old) × (T.failed writer.new ≡ T.failed writer.old)) }
     ensures failed { OnErr result ((S.failed reader.new ≡ true) ⊎ (T.failed writer.new ≡ true)) }

@@ -1,18 +1,22 @@
 //! What the words ask for beside a text, and the engines that do it.
 
+ghost use Rattle.std.specs.Prelude.{IfOk};
+ghost use Rattle.net_text.specs.Lexing.{lines_of};
+ghost use Rattle.text_engines.specs.Decoding.{output};
 ghost use Rattle.text_engines.specs.Engine.{IsAnswered};
-ghost use Rattle.command_line.specs.Tasks.{TaskPrints, ThreadsPrint};
+ghost use Rattle.command_line.specs.Tasks.{TaskPrints, LinesPrintBy, ThreadsPrint};
 
 use bgp_codec::Rule;
+use net_text::read_network;
 use play_engine::Shown;
-use record_engine::record_stream;
-use run_engine::run_stream;
 use stable_engine::StableEngine;
 use stable_search::SearchLimits;
-use std::alloc::Global;
+use std::alloc::{AllocError, Global};
 use std::sync::Wait;
 use std::thread::Threads;
-use text_engines::{CheckEngine, IoStopped, Sink, Source, answer_input, decode_stream};
+use text_engines::{
+    CheckEngine, IoStopped, Sink, Source, answer_by, answer_input, decode_stream, text_output,
+};
 use thread_runs::RunOptions;
 use trace_engine::TraceEngine;
 
@@ -70,6 +74,28 @@ pub fn run_task<S: Source, T: Sink>(
     }
 }
 
+// What a task of threads prints for the lines of a network, and the status.
+fn lines_output<R>(
+    rt: &R,
+    alloc: Global,
+    task: &ThreadTask,
+    text: &[u8],
+) -> Result<(Vec<u8>, u8), AllocError>
+where
+    R: Threads + Wait + Sync,
+    ensures { IfOk result (λ printed. LinesPrintBy task.now (lines_of text.now) (output printed.0.items printed.1)) }
+{
+    match read_network(alloc, text) {
+        Ok(network) => match task {
+            ThreadTask::Run(options) => run_engine::network_output(rt, alloc, options, &network),
+            ThreadTask::Record(options) => {
+                record_engine::network_output(rt, alloc, options, text, &network)
+            }
+        },
+        Err(refused) => text_output(alloc, &refused),
+    }
+}
+
 /// Reads the network of a task of threads, runs it, and writes the task's text; answers the status. It waits for the
 /// threads. It ends as [`text_engines::answer_by`] does if memory is refused, or a read or a write fails.
 pub fn run_thread_task<R, S, T>(
@@ -86,8 +112,6 @@ where
     ensures { IsAnswered (ThreadsPrint task) (S.remaining reader.old) (T.contents writer.old) (T.contents writer.new)
         (S.failed reader.old) (S.failed reader.new) (T.failed writer.old) (T.failed writer.new) result }
 {
-    match task {
-        ThreadTask::Run(options) => run_stream(rt, alloc, &options, reader, writer),
-        ThreadTask::Record(options) => record_stream(rt, alloc, &options, reader, writer),
-    }
+    let answer = |text: &[u8]| lines_output(rt, alloc, &task, text);
+    answer_by(alloc, answer, reader, writer)
 }

@@ -3,18 +3,17 @@
 ghost use Rattle.std.specs.Prelude.{◌≡◌, IfOk};
 ghost use Rattle.net_text.specs.Lexing.{lines_of};
 ghost use Rattle.text_engines.specs.Decoding.{output};
-ghost use Rattle.text_engines.specs.Engine.{IsAnswered};
-ghost use Rattle.record_engine.specs.Recording.{events_of, ending_text, record_output, RecordGives, LinesRecord, Records};
+ghost use Rattle.record_engine.specs.Recording.{events_of, ending_text, record_output, RecordGives};
 
 use crate::text::{ending_text, record_text};
-use net_text::{put_comments, read_network};
+use net_text::put_comments;
 use net_workers::Record;
 use ranked_policy::Network;
 use std::alloc::{AllocError, Global};
 use std::sync::Wait;
 use std::thread::Threads;
+use text_engines::put_limit;
 use text_engines::status::DONE;
-use text_engines::{IoStopped, Sink, Source, answer_by, put_limit, text_output};
 use thread_runs::{RunOptions, fault_output, run_network};
 
 /// What is printed of a record of a network of these lines, and the status: the lines, the line `schedule`, and each
@@ -41,8 +40,12 @@ pub fn record_output<G>(
     Ok((text, DONE))
 }
 
-// What is printed for a network of these lines, and the status.
-fn network_output<R>(
+/// Runs a network of these lines in threads as `bgpnet run` does, and answers what they did as a schedule: the
+/// network's lines, the line `schedule`, and each event as an order, by its stamp, then by its router, with comments
+/// behind them of how the snapshots came out and of the routes that the routers keep in the end; or why the run was
+/// refused; and the status. Where that is longer than an input may be a comment says so. It answers an error where
+/// memory is refused.
+pub fn network_output<R>(
     rt: &R,
     alloc: Global,
     options: &RunOptions,
@@ -62,44 +65,4 @@ where
         }
         Err(fault) => fault_output(alloc, fault),
     }
-}
-
-// What is printed for the lines of a network, and the status.
-fn lines_output<R>(
-    rt: &R,
-    alloc: Global,
-    options: &RunOptions,
-    text: &[u8],
-) -> Result<(Vec<u8>, u8), AllocError>
-where
-    R: Threads + Wait + Sync,
-    ensures { IfOk result (λ printed. LinesRecord options.now (lines_of text.now) (output printed.0.items printed.1)) }
-{
-    match read_network(alloc, text) {
-        Ok(network) => network_output(rt, alloc, options, text, &network),
-        Err(refused) => text_output(alloc, &refused),
-    }
-}
-
-/// Reads a network, runs it in threads as `bgpnet run` does, and writes what they did as a schedule: the network's
-/// lines, the line `schedule`, and each event as an order, by its stamp, then by its router, with comments behind them
-/// of how the snapshots came out and of the routes that the routers keep in the end; or the first line that is refused,
-/// or why the run was. Where that is longer than an input may be a comment says so. Answers the status.
-/// It ends as [`text_engines::answer_by`] does if memory is refused, or a read or a write fails.
-pub fn record_stream<R, S, T>(
-    rt: &R,
-    alloc: Global,
-    options: &RunOptions,
-    source: &mut S,
-    sink: &mut T,
-) -> Result<u8, IoStopped>
-where
-    R: Threads + Wait + Sync,
-    S: Source,
-    T: Sink,
-    ensures { IsAnswered (Records options.now) (S.remaining source.old) (T.contents sink.old) (T.contents sink.new)
-        (S.failed source.old) (S.failed source.new) (T.failed sink.old) (T.failed sink.new) result }
-{
-    let answer = |text: &[u8]| lines_output(rt, alloc, options, text);
-    answer_by(alloc, answer, source, sink)
 }

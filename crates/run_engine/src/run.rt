@@ -2,15 +2,13 @@
 
 ghost use Rattle.std.specs.Prelude.{◌≡◌, [], IfOk, OnOk, OnErr, true};
 ghost use Rattle.std.specs.List.{AllByRecursion};
-ghost use Rattle.net_text.specs.Lexing.{lines_of};
 ghost use Rattle.text_engines.specs.Decoding.{output};
-ghost use Rattle.text_engines.specs.Engine.{IsAnswered, WrittenBy, WrittenFrontBy};
-ghost use Rattle.run_engine.specs.Running.{HasSetting, RunGives, LinesRun, Runs, Gated};
+ghost use Rattle.text_engines.specs.Engine.{WrittenBy, WrittenFrontBy};
+ghost use Rattle.run_engine.specs.Running.{HasSetting, RunGives, Gated};
 
 use crate::settled::{Demand, settled_output};
 use crate::threads::threads_output;
 use bgp_codec::Message;
-use net_text::read_network;
 use net_workers::laws::events_can_be_sorted;
 use net_workers::{Gate, Limits};
 use prefix_lanes::Prefix;
@@ -20,7 +18,7 @@ use run_model::outcome_is_one;
 use std::alloc::{AllocError, Global};
 use std::sync::Wait;
 use std::thread::Threads;
-use text_engines::{IoStopped, Sink, Source, answer_by, text_output, write_output};
+use text_engines::{IoStopped, Sink, write_output};
 use thread_runs::{RunOptions, fault_output, run_network};
 use world_core::laws::members_are_the_routers;
 
@@ -69,8 +67,9 @@ fn has_setting(network: &Network)
     let _hold = network.settings().hold;
 }
 
-// What is printed for a network, and the status.
-fn network_output<R>(
+/// Runs a network in threads, and answers what is printed: the routes of the least settled snapshot in which every
+/// origin originates, or `unsettled`; and the status. It answers an error where memory is refused.
+pub fn network_output<R>(
     rt: &R,
     alloc: Global,
     options: &RunOptions,
@@ -95,42 +94,4 @@ where
         ),
         Err(fault) => fault_output(alloc, fault),
     }
-}
-
-// What is printed for the lines of a network, and the status.
-fn lines_output<R>(
-    rt: &R,
-    alloc: Global,
-    options: &RunOptions,
-    text: &[u8],
-) -> Result<(Vec<u8>, u8), AllocError>
-where
-    R: Threads + Wait + Sync,
-    ensures { IfOk result (λ printed. LinesRun options.now (lines_of text.now) (output printed.0.items printed.1)) }
-{
-    match read_network(alloc, text) {
-        Ok(network) => network_output(rt, alloc, options, &network),
-        Err(refused) => text_output(alloc, &refused),
-    }
-}
-
-/// Reads a network, runs it in threads, and writes the routes of the least settled snapshot in which
-/// every origin originates, or `unsettled`, or the first line that is refused; answers the status.
-/// It ends as [`text_engines::answer_by`] does if memory is refused, or a read or a write fails.
-pub fn run_stream<R, S, T>(
-    rt: &R,
-    alloc: Global,
-    options: &RunOptions,
-    source: &mut S,
-    sink: &mut T,
-) -> Result<u8, IoStopped>
-where
-    R: Threads + Wait + Sync,
-    S: Source,
-    T: Sink,
-    ensures { IsAnswered (Runs options.now) (S.remaining source.old) (T.contents sink.old) (T.contents sink.new)
-        (S.failed source.old) (S.failed source.new) (T.failed sink.old) (T.failed sink.new) result }
-{
-    let answer = |text: &[u8]| lines_output(rt, alloc, options, text);
-    answer_by(alloc, answer, source, sink)
 }
