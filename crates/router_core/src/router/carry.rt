@@ -88,13 +88,13 @@ pub(super) fn carry(
 /// takes no memory.
 pub(super) fn carry_front(
     alloc: Global,
+    own_open: &Message,
+    given: Brought,
+    made: &SideDraft,
     end: &mut SideEnd,
     tables: &mut Rib<'_>,
     at: usize,
     peer: Asn,
-    own_open: &Message,
-    given: Brought,
-    made: &SideDraft,
 )
     requires stands { slice_get (peers tables.old.net tables.old.router) at ≡ Some peer }
     requires own { (w : widths.Width) → IsSayable w own_open.now }

@@ -165,7 +165,7 @@ fn handle_by_draft(
     let copy = copy_for(alloc, marks, peer, made.acts, &given)?;
     hear(tables, at, peer, made.acts, &given)?;
     record(marks, peer, made.left, copy);
-    carry_front(alloc, end, tables, at, peer, own_open, given, &made);
+    carry_front(alloc, own_open, given, &made, end, tables, at, peer);
     Ok(())
 }
 

@@ -27,16 +27,11 @@ use snap_marker::{Channel, KeptPath, Part};
 use std::alloc::{AllocError, Global};
 
 // A copy of the path kept for each prefix of the network.
-fn kept_paths(
-    alloc: Global,
-    origins: &[Origin],
-    tables: &Rib<'_>,
-) -> Result<Vec<KeptPath>, AllocError>
+fn kept_paths(alloc: Global, origins: &[Origin], tables: &Rib) -> Result<Vec<KeptPath>, AllocError>
     requires { origins.now ≡ tables.now.net.origins }
     ensures { IfOk result (λ kept. kept.items ≡ paths_of origins.now tables.now.kept) }
 {
-    let mut kept = Vec::new(alloc);
-    kept.reserve(origins.len())?;
+    let mut kept = Vec::with_capacity(alloc, origins.len())?;
     for (at, origin) in origins.iter().enumerate() {
         let path = Path::from_slice(alloc, tables.path_at(at, &origin.prefix))?;
         kept.push(KeptPath {
@@ -48,7 +43,7 @@ fn kept_paths(
 }
 
 // Whether the prefix at a place of the network is originated.
-fn is_own(tables: &Rib<'_>, at: usize, prefix: &Prefix) -> bool
+fn is_own(tables: &Rib, at: usize, prefix: &Prefix) -> bool
     requires { IsNamedAt tables.now.net prefix.now at }
     ensures { result ≡ lists tables.now.originated prefix.now }
 {
@@ -56,11 +51,7 @@ fn is_own(tables: &Rib<'_>, at: usize, prefix: &Prefix) -> bool
 }
 
 // The prefixes of the network that are originated.
-fn originated(
-    alloc: Global,
-    origins: &[Origin],
-    tables: &Rib<'_>,
-) -> Result<Vec<Prefix>, AllocError>
+fn originated(alloc: Global, origins: &[Origin], tables: &Rib) -> Result<Vec<Prefix>, AllocError>
     requires { origins.now ≡ tables.now.net.origins }
     ensures { IfOk result (λ own. own.items ≡ own_of origins.now tables.now.originated) }
 {
@@ -87,8 +78,7 @@ fn awaits_marker(first: Option<Asn>, peer: Asn) -> bool
 fn channels(alloc: Global, peers: &[Peer], first: Option<Asn>) -> Result<Vec<Channel>, AllocError>
     ensures { IfOk result (λ made. map seen made.items ≡ channels_of first peers.now) }
 {
-    let mut made = Vec::new(alloc);
-    made.reserve(peers.len())?;
+    let mut made = Vec::with_capacity(alloc, peers.len())?;
     for peer in peers {
         made.push(Channel {
             peer: peer.number,
@@ -155,7 +145,7 @@ fn part_now(
     alloc: Global,
     number: Asn,
     origins: &[Origin],
-    tables: &Rib<'_>,
+    tables: &Rib,
     peers: &[Peer],
     snapshot: u32,
     first: Option<Asn>,
@@ -259,8 +249,8 @@ impl Router<'_> {
         at: usize,
         epoch: u32,
         number: u32,
-        stamp: u64,
         room: Result<(), AllocError>,
+        stamp: u64,
     ) -> Result<Stepped, RouterError>
         requires place { IsFound self.old.peers peer at }
         requires stamp { stamp ≤ GREATEST_STAMP }

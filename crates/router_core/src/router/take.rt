@@ -83,7 +83,7 @@ impl Router<'_> {
                 self.stamp = stamp;
                 Ok(Stepped::Did)
             }
-            What::Mark(epoch, number) => self.take_mark(peer, at, *epoch, *number, stamp, room),
+            What::Mark(epoch, number) => self.take_mark(peer, at, *epoch, *number, room, stamp),
         }
     }
 
