@@ -1,11 +1,14 @@
 -- What a router shows of itself, by peer.
 -- x is a router, v a router's number.
-use Rattle.std.specs.Prelude.{ℕ, ◌≡◌, ◌&&◌, Bool, cond, Option, None, Some, Result}
+use Rattle.std.specs.Prelude.{ℕ, ◌≡◌, ◌&&◌, Bool, true, cond, Option, None, Some, Result}
 use Rattle.std.specs.List.{find}
 use Rattle.prefix_lanes.specs.Bits.{PrefixView}
 use Rattle.bgp_codec.specs.declared.fault.Fault.{Fault}
 use Rattle.bgp_codec.specs.declared.message.Message.{Message}
 use Rattle.bgp_framing.specs.Held.{is_waiting}
+use Rattle.ranked_policy.specs.Plans.{IsNamed}
+use Rattle.rib_tables.specs.Tables.{Words, word_of}
+use Rattle.rib_tables.specs.declared.word.Word.{Word}
 use Rattle.router_model.specs.Settings.{linked, peers}
 use Rattle.router_model.specs.Sides.{Side, front}
 use Rattle.router_model.specs.State.{unadvertised}
@@ -23,6 +26,11 @@ has_front x v = linked x.net x.number v && is_waiting (sides_of x v).held
 -- the message or fault of a peer that stands in front, as this router reads it
 abbrev pub front_of : RouterView → ℕ → Result Message Fault
 front_of x v = front (naming x.net.settings.width x.number v) (sides_of x v).held
+
+-- for a linked peer and a prefix that the network names, these words have what the side towards the peer says now
+abbrev pub IsSaidNow : RouterView → ℕ → PrefixView → Words → (Side → PrefixView → Word) → Type 0
+IsSaidNow x v q words now =
+    linked x.net x.number v ≡ true → IsNamed x.net.origins q → word_of words v q ≡ now (sides_of x v) q
 
 -- the first peer that waits and has room, and its least prefix; none if no peer does
 abbrev pub IsToldNext : RouterView → Option (ℕ × PrefixView) → Type 0

@@ -2,14 +2,13 @@
 
 ghost use Rattle.std.specs.Prelude.{◌≡◌, ◌≢◌, true, false, slice_get, IfOk, MatchOption};
 ghost use Rattle.outbox.specs.Items.{octets_waiting};
-ghost use Rattle.ranked_policy.specs.Plans.{IsNamed};
 ghost use Rattle.rib_tables.specs.Words.{nothing};
 ghost use Rattle.rib_tables.specs.Tables.{word_of};
 ghost use Rattle.rib_tables.specs.Least.{HoldsOfAll, IsLeastWithout};
 ghost use Rattle.rib_tables.specs.Owners.{IsSettled};
-ghost use Rattle.router_model.specs.Settings.{linked, peers};
-ghost use Rattle.router_core.specs.Views.{plain_of, sides_of, heard_now, told_now};
-ghost use Rattle.router_core.specs.Shown.{of_peer, has_front, front_of, IsToldNext};
+ghost use Rattle.router_model.specs.Settings.{peers};
+ghost use Rattle.router_core.specs.Views.{plain_of, heard_now, told_now};
+ghost use Rattle.router_core.specs.Shown.{of_peer, has_front, front_of, IsSaidNow, IsToldNext};
 
 use super::Router;
 use super::choose::Next;
@@ -84,8 +83,7 @@ impl Router<'_> {
     pub fn word_heard(&self, peer: Asn, prefix: &Prefix) -> Option<&Word>
         ensures word { MatchOption result (word_of self.now.tables.heard peer prefix.now ≡ nothing)
             (λ word. (word.now ≡ word_of self.now.tables.heard peer prefix.now) × (word.now ≢ nothing)) }
-        ensures plain { linked self.now.net self.now.number peer ≡ true → IsNamed self.now.net.origins prefix.now
-            → word_of self.now.tables.heard peer prefix.now ≡ heard_now (sides_of self.now peer) prefix.now }
+        ensures plain { IsSaidNow self.now peer prefix.now self.now.tables.heard heard_now }
     {
         self.tables.word_heard(peer, prefix)
     }
@@ -95,8 +93,7 @@ impl Router<'_> {
     pub fn word_sent(&self, peer: Asn, prefix: &Prefix) -> Option<&Word>
         ensures word { MatchOption result (word_of self.now.tables.sent peer prefix.now ≡ nothing)
             (λ word. (word.now ≡ word_of self.now.tables.sent peer prefix.now) × (word.now ≢ nothing)) }
-        ensures plain { linked self.now.net self.now.number peer ≡ true → IsNamed self.now.net.origins prefix.now
-            → word_of self.now.tables.sent peer prefix.now ≡ told_now (sides_of self.now peer) prefix.now }
+        ensures plain { IsSaidNow self.now peer prefix.now self.now.tables.sent told_now }
     {
         self.tables.word_sent(peer, prefix)
     }
