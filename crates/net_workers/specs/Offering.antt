@@ -1,10 +1,13 @@
 -- How a worker takes the answer of the board.
-use Rattle.std.specs.Prelude.{ℕ, ◌≡◌, Result, Ok, Err}
+use Rattle.std.specs.Prelude.{ℕ, ◌≡◌, List, Result, Ok, Err}
 use Rattle.snap_marker.specs.declared.part.Offer.{Offer}
 use Rattle.snap_collector.specs.declared.answer.Taken.{Taken}
 use Rattle.snap_collector.specs.declared.answer.CollectError.{CollectError}
 use Rattle.snap_collector.specs.declared.answer.CollectError.TheVariants as refusal
-use Rattle.offer_board.specs.Boards.{BoardView, Offers}
+use Rattle.snap_collector.specs.Collecting.{made_by}
+use Rattle.offer_board.specs.declared.board.Made.{Made}
+use Rattle.offer_board.specs.Boards.{BoardView, Offers, collected_in}
+use Rattle.worker_loop.specs.Acts.{with_offer}
 use Rattle.worker_loop.specs.declared.worker.WorkerFault.{WorkerFault}
 use Rattle.worker_loop.specs.declared.worker.WorkerFault.TheVariants as worker
 
@@ -22,3 +25,7 @@ told_by (Err why) = Err (ended_by why)
 -- the board gave this answer, and went from x to y
 abbrev pub OffersAt : BoardView → BoardView → ℕ → Offer → Result ℕ WorkerFault → Type 0
 OffersAt x y stamp o r = (answer : Result (Taken × ℕ) CollectError) × Offers x y stamp o answer × (r ≡ told_by answer)
+
+-- of these offers that a worker made, one is now the last, with its stamp
+abbrev pub HasMade : List Made → Offer → List Made → ℕ → Type 0
+HasMade made o more at = collected_in more ≡ with_offer (collected_in made) at (made_by o)

@@ -2,11 +2,9 @@
 
 ghost use Rattle.std.specs.Prelude.{◌≡◌, ◌<◌, ◌≤◌, IfOk, OnErr, IsErr};
 ghost use Rattle.run_model.specs.declared.stamps.TheConstants.{GREATEST_STAMP};
-ghost use Rattle.snap_collector.specs.Collecting.{made_by};
 ghost use Rattle.snap_marker.specs.Parts.{offer_of, router_of};
 ghost use Rattle.offer_board.specs.Boards.{collected_in, AreCopies};
-ghost use Rattle.worker_loop.specs.Acts.{with_offer};
-ghost use Rattle.net_workers.specs.Offering.{ended_by, OffersAt};
+ghost use Rattle.net_workers.specs.Offering.{ended_by, HasMade, OffersAt};
 
 use crate::sleepers::Sleepers;
 use offer_board::{BoardState, CollectError, Made, two_copies};
@@ -105,9 +103,7 @@ impl BoardSeat {
         requires router { IfOk copies (λ copies. router_of copies.0 ≡ router_of offer.now) }
         requires others { IfOk copies (λ copies. AreCopies offer.now copies.1) }
         ensures offers { OffersAt board.old board.new stamp offer.now result }
-        ensures made { IfOk result
-            (λ at. collected_in self.new.made.items
-            ≡ with_offer (collected_in self.old.made.items) at (made_by offer.now)) }
+        ensures made { IfOk result (HasMade self.old.made.items offer.now self.new.made.items) }
         ensures later { IfOk result (λ at. stamp < at) }
         ensures few { IfOk result (λ at. at ≤ GREATEST_STAMP) }
         ensures full { OnErr copies (IsErr result) }
@@ -142,9 +138,7 @@ impl BoardSeat {
         room: Result<(), AllocError>,
     ) -> Result<u64, WorkerFault>
         ensures offers { OffersAt board.old board.new stamp offer.now result }
-        ensures made { IfOk result
-            (λ at. collected_in self.new.made.items
-            ≡ with_offer (collected_in self.old.made.items) at (made_by offer.now)) }
+        ensures made { IfOk result (HasMade self.old.made.items offer.now self.new.made.items) }
         ensures later { IfOk result (λ at. stamp < at) }
         ensures few { IfOk result (λ at. at ≤ GREATEST_STAMP) }
         ensures full { OnErr room (IsErr result) }

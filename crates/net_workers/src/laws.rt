@@ -1,5 +1,13 @@
 //! The threads' events are one run of the network. Each law is the contract of a function without work of its own.
 
+ghost use Rattle.outbox.specs.declared.item.What.{What};
+ghost use Rattle.snap_marker.specs.Recordings.{MadeOffer};
+ghost use Rattle.router_model.specs.Step as steps;
+ghost use Rattle.router_runs.specs.Runs.{Logged};
+ghost use Rattle.world_core.specs.Events.{router_of};
+ghost use Rattle.worker_loop.specs.Acts.{Act, entry_of};
+ghost use Rattle.worker_loop.specs.declared.journal.WorkerEvent.{WorkerEvent};
+ghost use Rattle.net_workers.specs.Called.{Orders, called_steps};
 ghost use Rattle.net_workers.specs.Gathered.{EventsCanBeSorted};
 ghost use Rattle.net_workers.specs.Runs.{RecordsAreRuns, RecordsKeepTheirPromises};
 
@@ -22,9 +30,6 @@ use world_core::laws::members_are_of_the_network;
 struct Lines;
 
 impl JournalLines for Lines {
-    ghost use Rattle.worker_loop.specs.declared.journal.WorkerEvent.{WorkerEvent};
-    ghost use Rattle.world_core.specs.Events.{router_of};
-
     ghost Line = { WorkerEvent };
 
     ghost stamp = { λ e. e.stamp };
@@ -36,10 +41,6 @@ impl JournalLines for Lines {
 struct Events;
 
 impl WholeLines for Events {
-    ghost use Rattle.worker_loop.specs.declared.journal.WorkerEvent.{WorkerEvent};
-    ghost use Rattle.worker_loop.specs.Acts.{Act, entry_of};
-    ghost use Rattle.world_core.specs.Events.{router_of};
-
     ghost Whole = { Act };
 
     ghost Line = { WorkerEvent };
@@ -56,12 +57,6 @@ impl WholeLines for Events {
 struct CalledRouters;
 
 impl Routers for CalledRouters {
-    ghost use Rattle.outbox.specs.declared.item.What.{What};
-    ghost use Rattle.snap_marker.specs.Recordings.{MadeOffer};
-    ghost use Rattle.router_model.specs.Step as steps;
-    ghost use Rattle.router_runs.specs.Runs.{Logged};
-    ghost use Rattle.net_workers.specs.Called.{Orders, called_steps};
-
     ghost Setting = { Orders };
 
     ghost State = { Logged };

@@ -277,7 +277,7 @@ where
     ensures limits { OnOk result (AreLimits network.now limits.turns (length gates.items)) }
     ensures refused { IfErr result
         (λ why. why ≡ RunFault.BadLimits ↔ (AreLimits network.now limits.turns (length gates.items) → ⊥)) }
-    // These three are as there.
+    // Fault, script and ways are as those of `run_journals`.
     ensures fault { IfErr result (FaultOf G.given G.script network.now limits.turns (map G.script gates.items)) }
     ensures script { IfOk result (λ r. map (λ w. G.script w.gate) r.workers.items ≡ map G.script gates.items) }
     ensures ways { IfOk result (λ r. AreWays network.now r.ways.items) }
