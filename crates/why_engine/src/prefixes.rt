@@ -5,7 +5,7 @@ ghost use Rattle.ranked_policy.specs.Plans.{IsNamed};
 ghost use Rattle.rib_tables.specs.Words.{path_in};
 ghost use Rattle.router_model.specs.Sides.{is_established, is_up};
 ghost use Rattle.router_core.specs.Views.{plain_of, sides_of, heard_now, told_now};
-ghost use Rattle.why_engine.specs.Explaining.{ArePeers, IsPeer, words_text, is_told, told_of, told_text, prefix_lines, prefixes_lines};
+ghost use Rattle.why_engine.specs.Explaining.{ArePeers, IsPeer, is_told, told_of, told_text, prefix_lines, prefixes_lines};
 
 use crate::lines::{put_kept_line, put_told_line};
 use crate::words::{is_same, put_said};
@@ -25,29 +25,6 @@ fn said_by<'r>(router: &'r Router<'_>, peer: Asn, prefix: &Prefix) -> &'r [Asn]
         Some(word) => word.path(),
         None => &[],
     }
-}
-
-// Appends what each peer said of a prefix.
-fn put_words(
-    router: &Router<'_>,
-    table: &PolicyTable<'_>,
-    peers: &[Asn],
-    prefix: &Prefix,
-    out: &mut Vec<u8>,
-) -> Result<(), AllocError>
-    requires peers { ArePeers router.now peers.now }
-    requires named { IsNamed router.now.net.origins prefix.now }
-    ensures { OnOk result
-        (out.new.items
-        ≡ out.old.items
-        ++ words_text table.now prefix.now ((plain_of router.now).router.kept prefix.now) (sides_of router.now)
-        peers.now) }
-{
-    for peer in peers {
-        let said = said_by(router, *peer, prefix);
-        put_said(table, prefix, router.kept(prefix), *peer, said, out)?;
-    }
-    Ok(())
 }
 
 // The path that a peer was told last.
@@ -139,8 +116,12 @@ fn put_prefix(
     ensures { OnOk result
         (out.new.items ≡ out.old.items ++ prefix_lines table.now (plain_of router.now).router peers.now prefix.now) }
 {
-    put_kept_line(prefix, router.kept(prefix), router.originates(prefix), out)?;
-    put_words(router, table, peers, prefix, out)?;
+    let kept = router.kept(prefix);
+    put_kept_line(prefix, kept, router.originates(prefix), out)?;
+    for peer in peers {
+        let said = said_by(router, *peer, prefix);
+        put_said(table, prefix, kept, *peer, said, out)?;
+    }
     let told = told_peers(alloc, router, peers, prefix)?;
     put_told(told.as_slice(), out)
 }

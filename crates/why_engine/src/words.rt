@@ -2,7 +2,7 @@
 
 ghost use Rattle.std.specs.Prelude.{◌≡◌, ◌∷◌, ◌++◌, OnOk};
 ghost use Rattle.router_model.specs.State.{same_path};
-ghost use Rattle.why_engine.specs.Explaining.{place_in, place_text, kept_text, choice_text, stands_in, may_use, verdict_text, said_text};
+ghost use Rattle.why_engine.specs.Explaining.{place_in, place_text, kept_text, stands_in, may_use, verdict_text, said_text};
 ghost use Rattle.ranked_policy.specs.Tests.{rule_for};
 
 use net_text::{put_decimal, put_len, put_numbers};
@@ -72,24 +72,6 @@ fn kept_text(kept: &[Asn], router: Asn, said: &[Asn]) -> &'static [u8]
     }
 }
 
-#[tactic(auto, unfolding(crate::specs::Explaining::choice_text))]
-fn put_choice(
-    table: &PolicyTable<'_>,
-    prefix: &Prefix,
-    kept: &[Asn],
-    said: &[Asn],
-    out: &mut Vec<u8>,
-) -> Result<(), AllocError>
-    ensures { OnOk result
-        (out.new.items ≡ out.old.items ++ choice_text table.now prefix.now kept.now said.now) }
-{
-    put_decimal(out, table.router())?;
-    out.extend_from_slice(b"-")?;
-    put_numbers(out, said)?;
-    put_place(table, prefix, said, out)?;
-    out.extend_from_slice(kept_text(kept, table.router(), said))
-}
-
 // Whether the router stands in what was said.
 #[tactic(auto, unfolding(crate::specs::Explaining::stands_in))]
 fn stands_in(table: &PolicyTable<'_>, said: &[Asn]) -> bool
@@ -109,6 +91,7 @@ fn is_permitted(table: &PolicyTable<'_>, prefix: &Prefix, said: &[Asn]) -> bool
         .permits_onward(table.router(), said)
 }
 
+#[tactic(auto, unfolding(crate::specs::Explaining::choice_text))]
 fn put_verdict(
     table: &PolicyTable<'_>,
     prefix: &Prefix,
@@ -122,10 +105,14 @@ fn put_verdict(
     if stands_in(table, said) {
         return out.extend_from_slice(b"loop");
     }
-    if is_permitted(table, prefix, said) {
-        return put_choice(table, prefix, kept, said, out);
+    if !is_permitted(table, prefix, said) {
+        return out.extend_from_slice(b"not permitted");
     }
-    out.extend_from_slice(b"not permitted")
+    put_decimal(out, table.router())?;
+    out.extend_from_slice(b"-")?;
+    put_numbers(out, said)?;
+    put_place(table, prefix, said, out)?;
+    out.extend_from_slice(kept_text(kept, table.router(), said))
 }
 
 /// Appends the path that a peer said for a prefix, and how the router judges it; nothing if the peer said none.
