@@ -1,6 +1,6 @@
 -- Places that bear on each other have one label, and each label's places have their own picks.
 use Rattle.std.proofs.Common.{◌≡◌, ◌≢◌, ℕ, zero, suc, ◌<◌, ◌≤◌, ◌+◌, ◌==◌, Bool, true, cond, List, [], ◌∷◌, ◌++◌, length, take, get_or, map, refl, sym, ap, subst, ◌∙◌, eq-eqb, ne_eqb, arith, inl, inr, ◌⊎◌}
-use Rattle.std.specs.Prelude.{◌↔◌, Result, Ok, Err, IfOk, IfErr, IsErrAnd}
+use Rattle.std.specs.Prelude.{◌↔◌, Result, Ok, Err, IfOk, IfErr, IsErrAnd, Vec}
 use Rattle.std.specs.List.{All, AllPairs, Any, Contains}
 use Rattle.std.specs.Int.{bit_at}
 use lib.Bits.{bit_and}
@@ -16,7 +16,7 @@ use Rattle.stable_search.specs.declared.seat.Seat.{Seat}
 use Rattle.stable_search.specs.declared.stop.Stop.TheVariants as stops
 use Rattle.stable_search.specs.declared.way.Way.{Way}
 use Rattle.stable_search.specs.Picks.{Has, IsIn, FitsWay, IsWithin, AreWithin, Solves, AreAll, AddsMore, IsFull, Narrows}
-use Rattle.stable_search.specs.Groups.{at_places, IsPickOf, IsGroup, AreGroups, RefusesSearch, ArePlaces, FitsBetween, RefusesPlaces}
+use Rattle.stable_search.specs.Groups.{at_places, IsPickOf, IsGroup, AreGroups, RefusesSearch, ArePlaces, FitsBetween, RefusesPlaces, FindsGroups}
 use Rattle.stable_search.specs.Parting.{IsFree, AreLeast, Joins, AreLabels, InPart, KeepsPart, IsPartSets, IsPartGroup, AreGrouped}
 use Rattle.stable_search.proofs.NarrowLemmas.{in_before}
 
@@ -582,6 +582,11 @@ groups_before ways old new groups narrows are = record {
   apart = are.apart;
   order = are.order;
 }
+
+-- what is found of sets that a narrowing left is found of the sets before
+pub found_before : {Z : Type 0} (seats : List Seat) (ways : List Way) (old new : List ℕ) (most : ℕ) (r : Result (Vec Group Z) SearchError) → Narrows ways old new → FindsGroups seats ways new most r → FindsGroups seats ways old most r
+found_before seats ways old new most (Ok groups) narrows found = (groups_before ways old new groups.items narrows found.0, found.1)
+found_before seats ways old new most (Err why) narrows found = refused_before seats ways old new most why narrows found
 
 pub within_copy : (n : ℕ) (way copy : Way) → copy.from ≡ way.from → copy.to ≡ way.to → copy.fits.items ≡ way.fits.items → IsWithin n way → IsWithin n copy
 within_copy n way copy a b f is = record { from = omega (arith, a, is.from); to = omega (arith, b, is.to); few = (let s = ap length f in omega (arith, s, is.few)) }

@@ -1,5 +1,5 @@
 -- Places that fall into groups, each with its own picks.
-use Rattle.std.specs.Prelude.{ℕ, ◌≡◌, ◌≢◌, ◌↔◌, ◌<◌, ⊤, List, [], length, map, slice_index, slice_index_or}
+use Rattle.std.specs.Prelude.{ℕ, ◌≡◌, ◌≢◌, ◌↔◌, ◌<◌, ◌≤◌, ⊤, List, [], length, map, slice_index, slice_index_or, Result, Ok, Err, Vec}
 use Rattle.std.specs.List.{All, AllPairs, Any, Contains}
 use mathlib.Core.Logic.{◌⊎◌}
 use Rattle.stable_search.specs.declared.every.Component.{Component}
@@ -123,3 +123,8 @@ RefusesPlaces seats ways sets most (refusals.TooManyChoices routers) =
 RefusesPlaces seats ways sets most (refusals.TooManySteps routers) =
     (places : List ℕ) × ArePlaces sets places × AreRoutersAt seats places routers
 RefusesPlaces seats ways sets most refusals.Memory = ⊤
+
+-- the groups that a search finds, none with more picks than so many; or its refusal
+abbrev pub FindsGroups : {Z : Type 0} → List Seat → List Way → List ℕ → ℕ → Result (Vec Group Z) SearchError → Type 0
+FindsGroups seats ways sets most (Ok groups) = AreGroups ways sets groups.items × All (λ group. length group.picks ≤ most) groups.items
+FindsGroups seats ways sets most (Err why) = RefusesPlaces seats ways sets most why

@@ -2,7 +2,7 @@
 
 ghost use Rattle.std.specs.Prelude.{◌≡◌, ◌≢◌, ◌↔◌, ◌<◌, ◌≤◌, ℕ, List, IfOk, IfErr, length, slice_index};
 ghost use Rattle.std.specs.List.{All, AllPairs, Contains};
-ghost use Rattle.stable_search.specs.Groups.{IsGroup, AreGroups, TellsOf, RefusesSearch, RefusesPlaces};
+ghost use Rattle.stable_search.specs.Groups.{IsGroup, AreGroups, TellsOf, RefusesSearch, RefusesPlaces, FindsGroups};
 ghost use Rattle.stable_search.specs.Parting.{IsPartGroup};
 ghost use Rattle.stable_search.specs.Picks.{AreWithin, AreAll, Narrows};
 ghost use Rattle.stable_search.specs.declared.way.Way.{Way};
@@ -123,9 +123,7 @@ fn groups_of(
 ) -> Result<Vec<Group>, SearchError>
     requires seats { length seats.now ≡ length sets.now }
     requires within { AreWithin (length sets.now) ways.now }
-    ensures groups { IfOk result (λ groups. AreGroups ways.now sets.now groups.items) }
-    ensures most { IfOk result (λ groups. All (λ group. length group.picks ≤ limits.now.most) groups.items) }
-    ensures refused { IfErr result (RefusesPlaces seats.now ways.now sets.now limits.now.most) }
+    ensures { FindsGroups seats.now ways.now sets.now limits.now.most result }
 {
     let all_labels = labels_of(alloc, ways, sets)?;
     let labels = all_labels.as_slice();
@@ -164,9 +162,7 @@ pub(crate) fn groups(
 ) -> Result<Vec<Group>, SearchError>
     requires seats { length seats.now ≡ length sets.old }
     requires within { AreWithin (length sets.old) ways.now }
-    ensures groups { IfOk result (λ groups. AreGroups ways.now sets.old groups.items) }
-    ensures most { IfOk result (λ groups. All (λ group. length group.picks ≤ limits.now.most) groups.items) }
-    ensures refused { IfErr result (RefusesPlaces seats.now ways.now sets.old limits.now.most) }
+    ensures { FindsGroups seats.now ways.now sets.old limits.now.most result }
 {
     narrow_all(ways, sets, u64::MAX);
     let groups = groups_of(alloc, seats, ways, sets, limits)?;

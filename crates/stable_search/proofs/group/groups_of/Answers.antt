@@ -4,7 +4,7 @@ use Rattle.std.proofs.lemmas.List.Elements.{All-push}
 use Rattle.std.proofs.lemmas.Result.{err_from_is_err_and}
 use Rattle.stable_search.specs.declared.group.Group.{Group}
 use Rattle.stable_search.specs.Parting.{AreLabels, AreGrouped}
-use Rattle.stable_search.proofs.PartLemmas.{grouped_skip, grouped_add, grouped_all, no_place, memory_refuses}
+use Rattle.stable_search.proofs.PartLemmas.{grouped_skip, grouped_add, grouped_all, no_place}
 use Rattle.stable_search.proofs.group.groups_of.Goals as goal
 use Rattle.stable_search.proofs.group.groups_of.Goals.{then-not-is_empty+in_ok-group+in_ok-push, else-not-is_empty}
 
@@ -32,22 +32,30 @@ loop-label-preserved c =
           )
     ]
 
-pub returns-clause-groups : goal.returns-clause-groups
-returns-clause-groups c =
+pub returns : goal.returns
+returns c =
     let labels = c.as_slice-labels.result.now in
-    let of : AreLabels c.args.sets.now c.args.ways.now labels = subst (AreLabels c.args.sets.now c.args.ways.now) (sym c.as_slice-labels.ensures.value) c.in_ok-all_labels.ensures in
-    grouped_all c.args.sets.now labels c.args.ways.now c.loop-label.label c.loop-label.groups.items c.requires.within of c.loop-label-test.false c.loop-label.invariant.0
+    let of : AreLabels c.args.sets.now c.args.ways.now labels = subst (AreLabels c.args.sets.now c.args.ways.now) (sym c.as_slice-labels.ensures.value) c.in_ok-all_labels.ensures in (
+      grouped_all c.args.sets.now labels c.args.ways.now c.loop-label.label c.loop-label.groups.items c.requires.within of c.loop-label-test.false c.loop-label.invariant.0,
+      c.loop-label.invariant.1,
+    )
 
-pub returns-in_err-all_labels-clause-refused : goal.returns-in_err-all_labels-clause-refused
-returns-in_err-all_labels-clause-refused c = memory_refuses c.args.seats.now c.args.ways.now c.args.sets.now c.args.limits.now.most c.from_residual.result c.from_residual.ensures.1
+pub returns-in_err-all_labels : goal.returns-in_err-all_labels
+returns-in_err-all_labels c =
+    let p = err_from_is_err_and c.from_residual.result c.from_residual.ensures.1 in
+    rw (p.1, p.2) tt
 
-pub returns-in_err-places-clause-refused : goal.returns-in_err-places-clause-refused
-returns-in_err-places-clause-refused c = memory_refuses c.args.seats.now c.args.ways.now c.args.sets.now c.args.limits.now.most c.from_residual-in_err-places.result c.from_residual-in_err-places.ensures.1
+pub returns-in_err-places : goal.returns-in_err-places
+returns-in_err-places c =
+    let p = err_from_is_err_and c.from_residual-in_err-places.result c.from_residual-in_err-places.ensures.1 in
+    rw (p.1, p.2) tt
 
-pub returns-in_err-group-clause-refused : goal.returns-in_err-group-clause-refused
-returns-in_err-group-clause-refused c =
+pub returns-in_err-group : goal.returns-in_err-group
+returns-in_err-group c =
     let p = err_from_is_err_and c.from_residual-in_err-group.result c.from_residual-in_err-group.ensures.1 in
     rw (p.1, p.2) c.in_err-group.ensures.refused
 
-pub returns-in_err-push-clause-refused : goal.returns-in_err-push-clause-refused
-returns-in_err-push-clause-refused c = memory_refuses c.args.seats.now c.args.ways.now c.args.sets.now c.args.limits.now.most c.from_residual-in_err-push.result c.from_residual-in_err-push.ensures.1
+pub returns-in_err-push : goal.returns-in_err-push
+returns-in_err-push c =
+    let p = err_from_is_err_and c.from_residual-in_err-push.result c.from_residual-in_err-push.ensures.1 in
+    rw (p.1, p.2) tt

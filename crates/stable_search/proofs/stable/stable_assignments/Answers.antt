@@ -15,7 +15,7 @@ use Rattle.stable_search.proofs.stable.stable_assignments.Goals as goal
 pub parts_of-requires : goal.parts_of-requires
 parts_of-requires c =
     let sets = c.in_ok-sets.sets.items in
-    let fall : AreGroups c.as_slice-4.result.now sets c.in_ok-groups.groups.items = subst (λ (xs : List ℕ). AreGroups c.as_slice-4.result.now xs c.in_ok-groups.groups.items) c.as_mut_slice.ensures.value c.in_ok-groups.ensures.groups in (
+    let fall : AreGroups c.as_slice-4.result.now sets c.in_ok-groups.groups.items = subst (λ (xs : List ℕ). AreGroups c.as_slice-4.result.now xs c.in_ok-groups.groups.items) c.as_mut_slice.ensures.value c.in_ok-groups.ensures.0 in (
       sets,
       subst (λ (xs : List Seat). AreValues xs sets) (c.as_slice-2.ensures.value ∙ sym c.as_slice-5.ensures.value) c.in_ok-sets.ensures,
       subst (All (IsGroup sets)) (sym c.as_slice-6.ensures.value) fall.each,
@@ -32,7 +32,7 @@ returns-clause-every c =
     subst (λ (links : List Link). AreWaysOf links seats ways) (ap (λ (n : Plan). n.links) c.network-network.ensures.value)
     (subst (λ (xs : List Seat). AreWaysOf c.network-network.result.now.links xs ways) c.as_slice.ensures.value c.in_ok-ways.ensures) in
     let values : AreValues seats sets = subst (λ (xs : List Seat). AreValues xs sets) c.as_slice-2.ensures.value c.in_ok-sets.ensures in
-    let fall : AreGroups ways sets groups = subst (λ (ws : List Way). AreGroups ws sets groups) c.as_slice-4.ensures.value (subst (λ (xs : List ℕ). AreGroups c.as_slice-4.result.now xs groups) c.as_mut_slice.ensures.value c.in_ok-groups.ensures.groups) in
+    let fall : AreGroups ways sets groups = subst (λ (ws : List Way). AreGroups ws sets groups) c.as_slice-4.ensures.value (subst (λ (xs : List ℕ). AreGroups c.as_slice-4.result.now xs groups) c.as_mut_slice.ensures.value c.in_ok-groups.ensures.0) in
     let parts : ArePartsOf seats groups c.in_ok-parts.parts =
     subst (λ (gs : List Group). ArePartsOf seats gs c.in_ok-parts.parts) c.as_slice-6.ensures.value
     (subst (λ (xs : List Seat). ArePartsOf xs c.as_slice-6.result.now c.in_ok-parts.parts) c.as_slice-5.ensures.value c.in_ok-parts.ensures) in
@@ -43,7 +43,7 @@ returns-clause-most c =
     let groups = c.in_ok-groups.groups.items in
     let parts : ArePartsOf c.as_slice-5.result.now groups c.in_ok-parts.parts =
     subst (λ (gs : List Group). ArePartsOf c.as_slice-5.result.now gs c.in_ok-parts.parts) c.as_slice-6.ensures.value c.in_ok-parts.ensures in
-    few_parts c.as_slice-5.result.now groups c.in_ok-parts.parts c.args.limits.now.most parts c.in_ok-groups.ensures.most
+    few_parts c.as_slice-5.result.now groups c.in_ok-parts.parts c.args.limits.now.most parts c.in_ok-groups.ensures.1
 
 pub returns-in_err-seats-clause-refused : goal.returns-in_err-seats-clause-refused
 returns-in_err-seats-clause-refused c =
@@ -71,7 +71,7 @@ returns-in_err-groups-clause-refused c =
     let refused : RefusesPlaces seats ways sets most why =
     subst (λ (xs : List Seat). RefusesPlaces xs ways sets most why) c.as_slice-3.ensures.value
     (subst (λ (ws : List Way). RefusesPlaces c.as_slice-3.result.now ws sets most why) c.as_slice-4.ensures.value
-    (subst (λ (xs : List ℕ). RefusesPlaces c.as_slice-3.result.now c.as_slice-4.result.now xs most why) c.as_mut_slice.ensures.value c.in_err-groups.ensures.refused)) in
+    (subst (λ (xs : List ℕ). RefusesPlaces c.as_slice-3.result.now c.as_slice-4.result.now xs most why) c.as_mut_slice.ensures.value c.in_err-groups.ensures)) in
     let e = err_from_is_err_and c.from_residual-in_err-groups.result c.from_residual-in_err-groups.ensures.1 in
     rw (e.1, e.2)
     (places_refused p c.network-network.ensures.problem c.stable_is_fitting.ensures seats c.in_ok-seats.ensures.routers c.in_ok-seats.ensures.seats ways over sets values c.args.limits.now why refused)
