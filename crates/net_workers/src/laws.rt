@@ -26,6 +26,24 @@ use worker_loop::Gate;
 use worker_loop::laws::{acts_are_journals, stamps_rise, what_follows_is_called};
 use world_core::laws::members_are_of_the_network;
 
+/// The routers of a network at the word of their chores: each event is what the call of its router answers, and is a
+/// command only if one of the chores is that command. No value of it is made.
+struct CalledRouters;
+
+impl Routers for CalledRouters {
+    ghost Setting = { Orders };
+
+    ghost State = { Logged };
+
+    ghost Own = { steps.Own };
+
+    ghost Item = { What };
+
+    ghost Offer = { MadeOffer };
+
+    ghost step = { called_steps };
+}
+
 /// The lines of journals. No value of it is made.
 struct Lines;
 
@@ -50,24 +68,6 @@ impl WholeLines for Events {
     ghost stamp = { λ e. e.stamp };
 
     ghost router = { λ e. router_of e.event };
-}
-
-/// The routers of a network at the word of their chores: each event is what the call of its router answers, and is a
-/// command only if one of the chores is that command. No value of it is made.
-struct CalledRouters;
-
-impl Routers for CalledRouters {
-    ghost Setting = { Orders };
-
-    ghost State = { Logged };
-
-    ghost Own = { steps.Own };
-
-    ghost Item = { What };
-
-    ghost Offer = { MadeOffer };
-
-    ghost step = { called_steps };
 }
 
 /// Every record is one of a run of the network: the gathered events are that run, and its last state has the routers,
