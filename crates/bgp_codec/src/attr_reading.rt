@@ -1,9 +1,9 @@
 //! The reader of attributes (RFC 4271 sections 4.3 and 6.3): one after the other, each with all its checks.
 
-ghost use Rattle.std.specs.Prelude.{◌≡◌, List, true, false, IfErr, OnOk, slice_index, ◌≤◌, length};
+ghost use Rattle.std.specs.Prelude.{◌≡◌, List, true, IfErr, OnOk, slice_index, ◌≤◌, length};
 ghost use Rattle.bgp_codec.specs.Reading.{Gives, IsNoWant};
 ghost use Rattle.bgp_codec.specs.AttrTable.{is_known};
-ghost use Rattle.bgp_codec.specs.UpdateReading.{is_extended, head_size, value_size, attr_at, has_code, with_other, with_value, with_attr, other_reading, attrs_reading};
+ghost use Rattle.bgp_codec.specs.UpdateReading.{is_extended, head_size, value_size, attr_at, with_other, with_value, with_attr, other_reading, attrs_reading};
 ghost use Rattle.bgp_codec.specs.Gathering.{in_order, Marks};
 ghost use Rattle.bgp_codec.specs.declared.attributes.Raw.{Raw};
 

@@ -7,7 +7,6 @@ ghost use Rattle.bgp_codec.specs.Updates.{segment_code, path_octets, SegmentFits
 ghost use Rattle.bgp_codec.specs.UpdateReading.{update_fault, segment_at, segment_with, path_reading};
 ghost use Rattle.bgp_values.specs.declared.faults.TheConstants.{MALFORMED_AS_PATH};
 ghost use Rattle.bgp_codec.specs.AsNumbers.{asn_size, asn_octets, AsnFits, AreNumbers, numbers_of};
-ghost use Rattle.bgp_values.specs.declared.width.Width.TheVariants.{Two, Four};
 
 use crate::fault::{CodecError, update_fault};
 use crate::items::Items;
