@@ -1,8 +1,8 @@
 //! What an event will make of a side. It is worked out first: if it is refused, nothing has changed.
 
-ghost use Rattle.std.specs.Prelude.{◌≡◌, ◌≤◌, ◌<◌, ◌+◌, ◌*◌, [], length};
+ghost use Rattle.std.specs.Prelude.{◌≡◌, ◌≤◌, ◌<◌, ◌+◌, [], length};
 ghost use Rattle.session_fsm.specs.Table.{IsGoodEvent};
-ghost use Rattle.router_model.specs.Sides.{draft_of, apply_once, apply_all_once, dials, hangs_up, react_once, is_joined_by, apply, apply_all, react, react_to_sign, is_connecting, NoMessage};
+ghost use Rattle.router_model.specs.Sides.{draft_of, apply_once, apply_all_once, dials, react_once, is_joined_by, apply, react, react_to_sign, is_connecting, NoMessage};
 ghost use Rattle.router_side.specs.Drafts.{draft, hand, side_draft_of};
 
 use crate::brought::Brought;
@@ -61,19 +61,6 @@ impl SideDraft {
     }
 
     #[tactic(auto, using(crate::proofs::Said::said_on))]
-    fn hang_up(&mut self, own_open: &Message, given: &Brought)
-        requires { length self.old.says < 40 }
-        ensures after { draft own_open.now (hand given.now) self.new
-            ≡ hangs_up (draft own_open.now (hand given.now) self.old) }
-        ensures grows { length self.new.says ≤ length self.old.says + 1 }
-    {
-        if let Some(number) = self.link.hang_up() {
-            self.says.push(Say::Shut(number));
-        }
-        self.drops = true;
-    }
-
-    #[tactic(auto, using(crate::proofs::Said::said_on))]
     fn apply_once(&mut self, own_open: &Message, given: &Brought, action: Action)
         requires { length self.old.says < 40 }
         ensures after { draft own_open.now (hand given.now) self.new
@@ -87,7 +74,12 @@ impl SideDraft {
             Action::SendAlive => self.says.push(Say::Alive(epoch)),
             Action::SendNotice(code) => self.says.push(Say::Notice(epoch, code)),
             Action::SendGiven => self.says.push(Say::Given(epoch)),
-            Action::HangUp => self.hang_up(own_open, given),
+            Action::HangUp => {
+                if let Some(number) = self.link.hang_up() {
+                    self.says.push(Say::Shut(number));
+                }
+                self.drops = true;
+            }
             Action::Act => self.acts = true,
             Action::Up => {}
             Action::Down => self.left = Some(epoch),
@@ -147,17 +139,6 @@ impl SideDraft {
         }
     }
 
-    fn apply_all(&mut self, own_open: &Message, given: &Brought, actions: &[Action])
-        requires { length self.old.says + 5 * length actions.now ≤ 40 }
-        ensures after { draft own_open.now (hand given.now) self.new
-            ≡ apply_all own_open.now (hand given.now) (draft own_open.now (hand given.now) self.old) actions.now }
-        ensures grows { length self.new.says ≤ length self.old.says + 5 * length actions.now }
-    {
-        for action in actions {
-            self.apply(own_open, given, *action);
-        }
-    }
-
     /// An event comes to the session, and its actions are obeyed in their order.
     #[tactic(auto, unfolding(router_model::specs::Sides::react))]
     pub fn react(&mut self, own_open: &Message, given: &Brought, event: FsmEvent)
@@ -167,8 +148,9 @@ impl SideDraft {
             ≡ react own_open.now (hand given.now) (draft own_open.now (hand given.now) self.old) event }
         ensures grows { length self.new.says ≤ length self.old.says + 20 }
     {
-        let actions = self.session.on(event);
-        self.apply_all(own_open, given, actions.as_slice());
+        for action in self.session.on(event).as_slice() {
+            self.apply(own_open, given, *action);
+        }
     }
 
     /// Does what a sign of the peer means to the session.
