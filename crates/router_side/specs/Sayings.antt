@@ -1,17 +1,19 @@
 -- Short sayings as entries, and how many octets they have.
 -- m is a message, o an OPEN, n an incarnation.
-use Rattle.std.specs.Prelude.{ℕ, ◌+◌, ◌≤◌, Bool, cond, List, [], ◌∷◌, ◌++◌, length, Option, None, Some}
+use Rattle.std.specs.Prelude.{ℕ, ◌≡◌, ◌+◌, ◌≤◌, Bool, cond, List, [], ◌∷◌, ◌++◌, length, Option, None, Some, Result, IfOk}
 use Rattle.bgp_values.specs.declared.width.Width.{Width}
 use Rattle.bgp_values.specs.declared.messages.TheConstants.{MESSAGE_LIMIT, HEADER_LEN, LEAST_NOTIFICATION}
+use Rattle.bgp_codec.specs.declared.fault.Fault.{Fault}
 use Rattle.bgp_codec.specs.declared.message.Message.{Message}
 use Rattle.bgp_codec.specs.declared.message.Message.TheVariants.{OpenMsg, UpdateMsg, NoticeMsg, AliveMsg}
 use Rattle.bgp_codec.specs.declared.update.Update.{Update}
 use Rattle.bgp_codec.specs.declared.rule.Rule.{Rule}
 use Rattle.bgp_codec.specs.Spelling.{IsWritable, written}
+use Rattle.session_fsm.specs.Table.{IsGoodEvent}
 use Rattle.run_model.specs.Links.{Entry, Dial, Says, Shut}
 use Rattle.router_side.specs.declared.drafted.Say.{Say}
 use Rattle.router_side.specs.declared.drafted.Say.TheVariants as say
-use Rattle.router_model.specs.Sides.{AtHand, NoMessage, HasFault, HasUpdate, with_update, notification, notification_of}
+use Rattle.router_model.specs.Sides.{AtHand, NoMessage, HasFault, HasUpdate, with_update, notification, notification_of, event_of}
 
 -- the message that tells of what is at hand
 abbrev pub told_of : AtHand → Option Message
@@ -51,6 +53,12 @@ size_of open_len told_len (say.Given n) = told_len
 abbrev pub all_sizes : ℕ → ℕ → List Say → ℕ
 all_sizes open_len told_len [] = 0
 all_sizes open_len told_len (saying ∷ sayings) = size_of open_len told_len saying + all_sizes open_len told_len sayings
+
+-- what is found is this reading under a rule: its event may come, and a message is writable
+pub record IsReadAs (rule : Rule) (wanted found : Result Message Fault) : Type 0 where
+  pub read : found ≡ wanted
+  pub good : IsGoodEvent (event_of found)
+  pub writable : IfOk found (IsWritable rule)
 
 -- a message that a router can say
 abbrev pub nobody : Width → Rule

@@ -31,6 +31,6 @@ pub use brought::Brought;
 pub use draft::SideDraft;
 pub use drafted::{Say, Says};
 pub use history::{History, PastUpdate};
-pub use reading::{opened, read_frame};
+pub use reading::{Decoded, opened, read_frame};
 pub use side::SideEnd;
 pub use told_path::{MOST_NUMBERS, ToldPath};

@@ -3,12 +3,10 @@
 ghost use Rattle.std.specs.Prelude.{◌≡◌, Ok, Err, IfOk};
 ghost use Rattle.bgp_codec.specs.Faults.{reading};
 ghost use Rattle.bgp_codec.specs.Header.{IsFrame};
-ghost use Rattle.bgp_codec.specs.Spelling.{IsWritable};
 ghost use Rattle.bgp_codec.specs.declared.message.Message.TheVariants.{NoticeMsg};
 ghost use Rattle.router_model.specs.Sides.{event_of, at_hand};
 ghost use Rattle.router_side.specs.Drafts.{hand};
-ghost use Rattle.router_side.specs.Sayings.{told_of, IsSayableWhere};
-ghost use Rattle.session_fsm.specs.Table.{IsGoodEvent};
+ghost use Rattle.router_side.specs.Sayings.{told_of, IsReadAs, IsSayableWhere};
 
 use crate::brought::Brought;
 use crate::told_path::ToldPath;
@@ -21,17 +19,14 @@ use bgp_values::{MESSAGE_HEADER_ERROR, OPEN_MESSAGE_ERROR, UNSUPPORTED_VERSION_N
 use session_fsm::FsmEvent;
 use std::alloc::{AllocError, Global};
 
+/// A message, or the fault of what was to be one.
+pub type Decoded = Result<Message, Fault>;
+
 // The message or fault of a frame, decoded.
-pub(crate) fn decode_frame(
-    alloc: Global,
-    frame: &[u8],
-    rule: &Rule,
-) -> Result<Result<Message, Fault>, AllocError>
+pub(crate) fn decode_frame(alloc: Global, frame: &[u8], rule: &Rule) -> Result<Decoded, AllocError>
     requires { IsFrame frame.now }
-    ensures read { IfOk result (λ read. read ≡ reading rule.now frame.now) }
-    ensures good { IfOk result (λ read. IsGoodEvent (event_of read)) }
+    ensures reads { IfOk result (IsReadAs rule.now (reading rule.now frame.now)) }
     ensures told { IfOk result (λ read. IsSayableWhere rule.now.width (told_of (at_hand read))) }
-    ensures writable { IfOk result (λ read. IfOk read (IsWritable rule.now)) }
 {
     spelt_is_writable();
     open_has_a_hold_time();
@@ -47,16 +42,10 @@ pub(crate) fn decode_frame(
 
 /// The message or fault of a frame. If the frame is the one UPDATE that tells a path, the path is read from its octets,
 /// and nothing is decoded. It is refused only for want of memory.
-pub fn read_frame(
-    alloc: Global,
-    frame: &[u8],
-    rule: &Rule,
-) -> Result<Result<Message, Fault>, AllocError>
+pub fn read_frame(alloc: Global, frame: &[u8], rule: &Rule) -> Result<Decoded, AllocError>
     requires { IsFrame frame.now }
-    ensures read { IfOk result (λ read. read ≡ reading rule.now frame.now) }
-    ensures good { IfOk result (λ read. IsGoodEvent (event_of read)) }
+    ensures reads { IfOk result (IsReadAs rule.now (reading rule.now frame.now)) }
     ensures told { IfOk result (λ read. IsSayableWhere rule.now.width (told_of (at_hand read))) }
-    ensures writable { IfOk result (λ read. IfOk read (IsWritable rule.now)) }
 {
     if let Some(peer) = rule.peer {
         if let Some(route) = ToldPath::read(alloc, rule.width, peer, frame)? {
@@ -87,7 +76,7 @@ fn notice_event(notice: &Notice) -> FsmEvent
 }
 
 /// The event that a message or fault brings, and what is at hand with it. An UPDATE is moved.
-pub fn opened(read: Result<Message, Fault>) -> (FsmEvent, Brought)
+pub fn opened(read: Decoded) -> (FsmEvent, Brought)
     ensures event { result.0 ≡ event_of read }
     ensures given { hand result.1 ≡ at_hand read }
 {

@@ -2,19 +2,17 @@
 
 ghost use Rattle.std.specs.Prelude.{◌≡◌, ◌≤◌, true, false, length, IfOk, IfSome};
 ghost use Rattle.bgp_values.specs.declared.messages.TheConstants.{MESSAGE_LIMIT};
-ghost use Rattle.bgp_codec.specs.Spelling.{IsWritable};
 ghost use Rattle.bgp_framing.specs.Held.{is_waiting};
-ghost use Rattle.session_fsm.specs.Table.{IsGoodEvent};
-ghost use Rattle.router_model.specs.Sides.{uses, fed, front, event_of, at_hand};
+ghost use Rattle.router_model.specs.Sides.{uses, fed, front, at_hand};
 ghost use Rattle.router_side.specs.Acting.{IsRouteInFront};
-ghost use Rattle.router_side.specs.Sayings.{told_of, IsSayableWhere};
+ghost use Rattle.router_side.specs.Sayings.{told_of, IsReadAs, IsSayableWhere};
 ghost use Rattle.router_side.specs.SideOf.{side};
 
 use super::SideEnd;
-use crate::reading::{decode_frame, read_frame};
+use crate::reading::{Decoded, decode_frame, read_frame};
 use crate::told_path::ToldPath;
 use bgp_codec::laws::{header_fault_is_short, header_is_its_front, written_has_a_header};
-use bgp_codec::{Asn, Fault, Message, Rule};
+use bgp_codec::{Asn, Rule};
 use bgp_framing::Next;
 use std::alloc::{AllocError, Global};
 
@@ -31,12 +29,10 @@ impl SideEnd {
     }
 
     /// What stands in front of the octets held, as a message or a fault. It is refused only where memory was.
-    pub fn front(&self, alloc: Global, rule: &Rule) -> Result<Result<Message, Fault>, AllocError>
+    pub fn front(&self, alloc: Global, rule: &Rule) -> Result<Decoded, AllocError>
         requires { is_waiting (side self.now).held ≡ true }
-        ensures read { IfOk result (λ read. read ≡ front rule.now (side self.now).held) }
-        ensures good { IfOk result (λ read. IsGoodEvent (event_of read)) }
+        ensures reads { IfOk result (IsReadAs rule.now (front rule.now (side self.now).held)) }
         ensures told { IfOk result (λ read. IsSayableWhere rule.now.width (told_of (at_hand read))) }
-        ensures writable { IfOk result (λ read. IfOk read (IsWritable rule.now)) }
     {
         header_is_its_front();
         header_fault_is_short();
@@ -53,16 +49,10 @@ impl SideEnd {
 
     /// What [`SideEnd::front`] answers, for a caller that has not asked [`SideEnd::path_in_front`] before: a path
     /// that is told is read from its octets. It is refused only for want of memory.
-    pub fn front_to_show(
-        &self,
-        alloc: Global,
-        rule: &Rule,
-    ) -> Result<Result<Message, Fault>, AllocError>
+    pub fn front_to_show(&self, alloc: Global, rule: &Rule) -> Result<Decoded, AllocError>
         requires { is_waiting (side self.now).held ≡ true }
-        ensures read { IfOk result (λ read. read ≡ front rule.now (side self.now).held) }
-        ensures good { IfOk result (λ read. IsGoodEvent (event_of read)) }
+        ensures reads { IfOk result (IsReadAs rule.now (front rule.now (side self.now).held)) }
         ensures told { IfOk result (λ read. IsSayableWhere rule.now.width (told_of (at_hand read))) }
-        ensures writable { IfOk result (λ read. IfOk read (IsWritable rule.now)) }
     {
         header_is_its_front();
         match self.framer.next() {

@@ -1,11 +1,13 @@
 use Rattle.std.proofs.Common.{◌≡◌, ◌∙◌, true, false, refl, sym, ap, subst}
 use Rattle.std.specs.Prelude.{Result, IfOk}
+use Rattle.std.proofs.lemmas.Result.{IfOk-weaker}
 use Rattle.bgp_codec.specs.declared.fault.Fault.{Fault}
 use Rattle.bgp_codec.specs.declared.message.Message.{Message}
 use Rattle.bgp_framing.specs.Held.{is_waiting}
 use Rattle.ranked_policy.specs.declared.network.Settings.{Settings}
 use Rattle.router_model.specs.Sides.{Side, front}
 use Rattle.router_side.specs.SideOf.{side, naming}
+use Rattle.router_side.specs.Sayings.{IsReadAs}
 use Rattle.router_core.specs.Views.{view_of, RouterView, sides_of}
 use Rattle.router_core.specs.Shown.{front_of}
 use Rattle.router_core.proofs.Showing.{stands}
@@ -30,4 +32,6 @@ returns c =
     ap (λ (s : Settings). front (naming s.width r.number v) (side end).held) c.settings.ensures.value
     ∙ ap (λ (y : RouterView). front (naming y.net.settings.width y.number v) (side end).held) c.self.view_is
     ∙ ap (λ (s : Side). front (naming x.net.settings.width x.number v) s.held) (sym here) in
-    (rw (c.in_ok-at.ensures.none, waits) refl, subst (λ (t : Result Message Fault). IfOk c.front_to_show.result (λ f. f ≡ t)) read c.front_to_show.ensures.read)
+    let rule = naming c.settings.result.width c.self.inside.number v in
+    let is_read = IfOk-weaker c.front_to_show.result (IsReadAs rule (front rule (side end).held)) (λ f. f ≡ front rule (side end).held) (λ f h. h.read) c.front_to_show.ensures.reads in
+    (rw (c.in_ok-at.ensures.none, waits) refl, subst (λ (t : Result Message Fault). IfOk c.front_to_show.result (λ f. f ≡ t)) read is_read)

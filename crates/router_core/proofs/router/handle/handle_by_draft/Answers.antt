@@ -5,6 +5,7 @@ use Rattle.bgp_codec.specs.declared.fault.Fault.{Fault}
 use Rattle.bgp_codec.specs.declared.rule.Rule.{Rule}
 use Rattle.bgp_codec.specs.Spelling.{IsWritable}
 use Rattle.snap_marker.specs.Recordings.{Snapshots, closed}
+use Rattle.session_fsm.specs.Table.{IsGoodEvent}
 use Rattle.session_fsm.specs.declared.event.FsmEvent.{FsmEvent}
 use Rattle.router_model.specs.Sides.{Side, AtHand, carried, react, draft_of, at_hand, event_of, front, without_front}
 use Rattle.router_model.specs.Step.{close_at}
@@ -21,6 +22,9 @@ record-requires-clause-link c = link_on c.args.marks.now.unfinished c.copy_for.n
 pub reserve-requires-clause-own : goal.reserve-requires-clause-own
 reserve-requires-clause-own c = c.requires.own (side c.args.end.now).width
 
+pub draft_message-made-requires : goal.draft_message-made-requires
+draft_message-made-requires c = subst IsGoodEvent (sym c.opened-event.ensures.event) c.in_ok-read.ensures.reads.good
+
 -- what is at hand is in front
 pub carry_front-requires-clause-front : goal.carry_front-requires-clause-front
 carry_front-requires-clause-front c =
@@ -28,7 +32,7 @@ carry_front-requires-clause-front c =
     let before : IsInFront (side c.args.end.now).width (side c.args.end.now).held (hand c.opened-event.result.1) = (
       c.requires.rule.0,
       c.args.peer,
-      c.opened-event.ensures.given ∙ ap at_hand c.in_ok-read.ensures.read ∙ ap (λ (k : Rule). at_hand (front k (side c.args.end.now).held)) c.requires.rule.1,
+      c.opened-event.ensures.given ∙ ap at_hand c.in_ok-read.ensures.reads.read ∙ ap (λ (k : Rule). at_hand (front k (side c.args.end.now).held)) c.requires.rule.1,
     ) in
     subst (λ (s : Side). IsInFront s.width s.held (hand c.opened-event.result.1)) (sym same) before
 
@@ -39,7 +43,7 @@ returns-clause-ok c =
     let m = front c.args.rule.now s.held in
     let h = hand c.opened-event.result.1 in
     let a = draft o h c.draft_message-made.result in
-    let read = c.in_ok-read.ensures.read in
+    let read = c.in_ok-read.ensures.reads.read in
     let hand_is = c.opened-event.ensures.given ∙ ap at_hand read in
     let event_is = c.opened-event.ensures.event ∙ ap event_of read in
     let reserved = c.in_ok-reserve.ensures.side in
@@ -54,7 +58,7 @@ returns-clause-ok c =
       side = c.carry_front.ensures.side ∙ ap (λ (z : Side). carried h (without_front z) a) reserved;
       hears = c.in_ok-hear.ensures.ok;
       follows = subst (λ (z : Side). Followed c.hear.new.tables c.carry_front.new.tables c.args.peer (standing z) (standing (side c.carry_front.new.end))) reserved c.carry_front.ensures.tables;
-      writable = subst (λ (k : Result Message Fault). IfOk k (IsWritable c.args.rule.now)) read c.in_ok-read.ensures.writable;
+      writable = subst (λ (k : Result Message Fault). IfOk k (IsWritable c.args.rule.now)) read c.in_ok-read.ensures.reads.writable;
       sees =
           c.record.ensures.sees (update_acted a.acts h) c.in_ok-copy.ensures.copy
           ∙ ap (λ (x : Snapshots). seen_where c.args.peer (update_acted a.acts h) (closed (close_at c.args.peer a.left) x)) c.copy_for.ensures.state;
