@@ -2,7 +2,7 @@
 
 ghost use Rattle.std.specs.Prelude.{◌≡◌, ◌≢◌, ◌+◌, ◌<◌, ◌^◌, ◌∷◌, [], Ok, length, IfOk, IfErr, IfSome, IfNone};
 ghost use Rattle.net_text.specs.Lexing.{lines_of, words_of};
-ghost use Rattle.net_text.specs.Assignments.{path_line, words_entry, entry_reading, assignment_reading, RefusesAssignment};
+ghost use Rattle.net_text.specs.Assignments.{entry_reading, assignment_reading, RefusesAssignment};
 ghost use Rattle.net_text.specs.Steps.{Steps};
 
 use crate::code::{Code, Refused};
@@ -41,15 +41,28 @@ fn three_words(words: &[u8]) -> Option<(&[u8], &[u8], &[u8])>
     Some((a, b, c))
 }
 
-fn read_path(
+// Takes the entry of a line, if it has one.
+fn read_line(
     alloc: Global,
     network: &Network,
     line: usize,
     entries: &mut Entries,
-    words: &[u8],
+    text: &[u8],
 ) -> Result<(), Code>
-    ensures { Steps result (path_line network.now line entries.old (words_of words.now)) entries.new }
+    ensures { Steps result (entry_reading network.now line entries.old text.now) entries.new }
 {
+    if is_skipped(text) {
+        return Ok(());
+    }
+    if !is_ascii(text) {
+        return Err(Code::BadForm);
+    }
+    let Some((name, words)) = next_word(text) else {
+        return Ok(());
+    };
+    if !same(name, b"path") {
+        return Err(Code::BadForm);
+    }
     let Some((router, prefix, path)) = three_words(words) else {
         return Err(Code::BadForm);
     };
@@ -72,42 +85,6 @@ fn read_path(
         path,
     };
     entries.push(entry).map_err(|_| Code::Memory)
-}
-
-fn read_words(
-    alloc: Global,
-    network: &Network,
-    line: usize,
-    entries: &mut Entries,
-    text: &[u8],
-) -> Result<(), Code>
-    ensures { Steps result (words_entry network.now line entries.old (words_of text.now)) entries.new }
-{
-    let Some((name, words)) = next_word(text) else {
-        return Ok(());
-    };
-    if !same(name, b"path") {
-        return Err(Code::BadForm);
-    }
-    read_path(alloc, network, line, entries, words)
-}
-
-fn read_line(
-    alloc: Global,
-    network: &Network,
-    line: usize,
-    entries: &mut Entries,
-    text: &[u8],
-) -> Result<(), Code>
-    ensures { Steps result (entry_reading network.now line entries.old text.now) entries.new }
-{
-    if is_skipped(text) {
-        return Ok(());
-    }
-    if !is_ascii(text) {
-        return Err(Code::BadForm);
-    }
-    read_words(alloc, network, line, entries, text)
 }
 
 /// The entries of an assignment text, in the order of its lines. `before` lines stand before it.
