@@ -117,9 +117,7 @@ pub fn put_flight(
     ensures front { out.new.front ≡ out.old.front }
 {
     out.put_text(b"flight ")?;
-    out.put_decimal(from)?;
-    out.put_text(b" ")?;
-    out.put_decimal(to)?;
+    out.put_joined(&[from, to], b' ')?;
     out.put_text(b" ")?;
     put_update(out, message)
 }
