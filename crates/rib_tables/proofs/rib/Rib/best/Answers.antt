@@ -49,8 +49,8 @@ returns c =
     let Best : List Peer → Row → Type 0 = λ ps r. IsNetwork net → IsRouter net.routers s.router → IsRow net s.router ps r → MatchOption c.best_way-way.result (IsRowBest net s.router ps r []) (λ rest. IsRowBest net s.router ps r (s.router ∷ rest.now)) in
     let way = subst (λ (ps : List Peer). Best ps x.0) c.as_slice.ensures.value (subst (Best c.as_slice.result.now) row (c.best_way-way.ensures net)) in
     IfOk-weaker c.path_along.result (λ path. MatchOption c.best_way-way.result (path ≡ []) (λ rest. path ≡ s.router ∷ rest.now)) (IsBest (sources_of c.args.self.now) q)
-        (λ path along.
-            let best = best_along (IsRowBest net s.router s.peers.items x.0) (λ rest. s.router ∷ rest.now) c.best_way-way.result path (way whole.network whole.routers (whole.each place x.0 x.1)) along in
-            let seen = (best_seen net s.router s.peers.items s.keys.keys s.rows.items whole place x.0 x.1 path).0 best in
-            subst (λ (v : RibView). IsBest (sources_of v) q path) c.self.view_is (subst (λ (p : PrefixView). IsBest (sources_of (view_of net s.router s.peers.items s.rows.items)) p path) x.2 seen))
-        c.path_along.ensures
+    (λ path along.
+    let best = best_along (IsRowBest net s.router s.peers.items x.0) (λ rest. s.router ∷ rest.now) c.best_way-way.result path (way whole.network whole.routers (whole.each place x.0 x.1)) along in
+    let seen = (best_seen net s.router s.peers.items s.keys.keys s.rows.items whole place x.0 x.1 path).0 best in
+    subst (λ (v : RibView). IsBest (sources_of v) q path) c.self.view_is (subst (λ (p : PrefixView). IsBest (sources_of (view_of net s.router s.peers.items s.rows.items)) p path) x.2 seen))
+    c.path_along.ensures
