@@ -31,10 +31,10 @@ fn add_fitting(
     if found.len() >= most {
         return Err(Stop::TooManyChoices);
     }
-    match found.push(pick) {
-        Ok(()) => Ok(()),
-        Err(_) => Err(Stop::Memory),
-    }
+    let Ok(()) = found.push(pick) else {
+        return Err(Stop::Memory);
+    };
+    Ok(())
 }
 
 // Narrows the sets, of which the marked ones changed. If they are narrow enough then, adds their picks that solve; else

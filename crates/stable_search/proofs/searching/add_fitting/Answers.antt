@@ -11,8 +11,8 @@ returns-then-not-fits_all-clause-all c = λ sets is.
     (λ other s. misfit c.args.ways.now sets c.args.pick other is
     (λ all. never (c.if-not-fits_all.ensures.1 (subst (λ (p : List ℕ). All (FitsWay p) c.args.ways.now) (sym c.as_slice.ensures) all))) s)
 
-pub returns-in-Ok-clause-all : goal.returns-in-Ok-clause-all
-returns-in-Ok-clause-all c = λ sets is.
+pub returns-clause-all : goal.returns-clause-all
+returns-clause-all c = λ sets is.
     adds_one c.args.ways.now sets c.args.pick c.args.found.now.items c.push.new.self.items c.in-Ok.ensures.items is
     (subst (λ (p : List ℕ). All (FitsWay p) c.args.ways.now) c.as_slice.ensures (c.if-not-fits_all.ensures.0 refl))
 
