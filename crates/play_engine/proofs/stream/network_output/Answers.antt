@@ -20,8 +20,8 @@ returns-in-Ok-read_schedule c =
     ))
     c.orders_output.ensures
 
-pub returns-in-Err-read_schedule : goal.returns-in-Err-read_schedule
-returns-in-Err-read_schedule c =
+pub returns-in-Ok : goal.returns-in-Ok
+returns-in-Ok c =
     let refused = c.in-Err-read_schedule.refused in
     both_ok _ _ _ c.text_output.result (λ printed kind is. inr (c.in-Ok.network, c.in-Ok.ensures.ok, inl (refused.line, refused.code, kind, c.in-Err-read_schedule.ensures.err, is)))
     c.text_output.ensures.kind c.text_output.ensures.output

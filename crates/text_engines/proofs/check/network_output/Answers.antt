@@ -19,8 +19,8 @@ returns-in-Ok-read_assignment c =
     ))
     c.entries_output.ensures
 
-pub returns-in-Err-read_assignment : goal.returns-in-Err-read_assignment
-returns-in-Err-read_assignment c =
+pub returns-in-Ok : goal.returns-in-Ok
+returns-in-Ok c =
     let refused = c.in-Err-read_assignment.refused in
     both_ok _ _ _ c.text_output.result (λ printed kind is. inr (c.in-Ok.network, c.in-Ok.ensures.ok, inl (refused.line, refused.code, kind, c.in-Err-read_assignment.ensures.err, is)))
     c.text_output.ensures.kind c.text_output.ensures.output
