@@ -5,11 +5,9 @@
 //! [`command_line::run_with`], and ends with its status. On the standard error it says in words what a refusal means,
 //! and what failed, as [`error_words::said`] answers.
 //!
-//! Its one contract is that of the engine that the words ask for: `text_engines::decode_stream` for `bgpnet decode`,
-//! `run_engine::network_output` for `bgpnet run`, `record_engine::network_output` for `bgpnet record`, and
-//! `text_engines::answer_input` over an engine for the others: `text_engines::CheckEngine` for `bgpnet check`,
-//! `stable_engine::StableEngine` for `bgpnet stable`, `play_engine::Shown` for `bgpnet play`, `bgpnet cut` and `bgpnet
-//! why`, `trace_engine::TraceEngine` for `bgpnet trace`. The definitions stand in their `specs/`.
+//! Its contract is that of the task that the words ask for. `command_line::run_task` (`TaskPrints`) reads, answers and
+//! writes for `decode`, `check`, `stable`, `play`, `cut`, `why` and `trace`; `command_line::run_thread_task`
+//! (`ThreadsPrint`) does for `run` and `record`. Both cite the definitions in the `specs/` of the engines.
 #![tactic(auto)]
 
 use command_line::{run_with, status_of};
