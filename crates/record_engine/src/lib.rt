@@ -2,10 +2,10 @@
 //! network and a schedule, for `bgpnet play`. First come the network's lines, then each event of the record as an
 //! order, in the order of their stamps, and behind them, as comments, what the threads ended in.
 //!
-//! The contract of `bgpnet record` is that of [`network_output`]: what it answers is the text of a record of threads of
-//! the network; [`record_output`] makes that text of a record. `command_line` reads the network and writes the text.
-//! [`laws`] says that `play` leads where the threads ended, and prints what the comments say. The definitions stand in
-//! `specs/`: `Recording` (the text of a record, and that of an input) and `Laws`.
+//! Its contract is that of [`network_output`]: what it answers is the text of a record of threads of the network;
+//! [`record_output`] makes that text of a record. `command_line::run_thread_task` reads the network and writes the
+//! text. [`laws`] says that `play` leads where the threads ended, and prints what the comments say. The definitions
+//! stand in `specs/`: `Recording` (the text of a record, and that of an input) and `Laws`.
 #![tactic(auto)]
 
 pub mod laws;
