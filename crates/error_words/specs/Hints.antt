@@ -1,9 +1,9 @@
 -- What a user may have meant whose input is refused, or whose words are not taken.
-use Rattle.std.specs.Prelude.{ℕ, ◌==◌, ◌||◌, nat_eq, Bool, [], ◌∷◌, replicate, Option, None, Some, codes, if◌then◌else◌}
-use Rattle.std.specs.List.{list_any, starts_with}
+use Rattle.std.specs.Prelude.{ℕ, ◌==◌, ◌||◌, ◌&&◌, nat_eq, nat_le, Bool, false, List, [], ◌∷◌, replicate, Option, None, Some, codes, if◌then◌else◌}
+use Rattle.std.specs.List.{list_all, list_any, starts_with}
 use Rattle.error_words.specs.declared.hints.Hint.{Hint}
 use Rattle.error_words.specs.declared.hints.Hint.TheVariants as hint
-use Rattle.net_text.specs.Lexing.{Text}
+use Rattle.net_text.specs.Lexing.{Text, words_of}
 
 abbrev pub has : ℕ → Text → Bool
 has x text = list_any (λ y. y == x) text
@@ -27,15 +27,26 @@ is_capture input =
 abbrev pub is_message : Text → Bool
 is_message input = starts_with nat_eq input (replicate 16 255)
 
--- the line is one of a hexdump: places end by a colon, or characters stand between bars
+-- an octet of a place or a time: a hex digit, an x, a dot or a colon
+abbrev pub is_place_octet : ℕ → Bool
+is_place_octet x =
+    (nat_le 48 x && nat_le x 58) || (nat_le 97 x && nat_le x 102) || (nat_le 65 x && nat_le x 70) || (x == 120) || (x == 46)
+
+-- a line begins with a place or a time, which a colon ends or parts
+abbrev pub is_placed : List Text → Bool
+is_placed [] = false
+is_placed (word ∷ words) = has 58 word && list_all is_place_octet word
+
+-- the line is one of a hexdump: it begins with a place or a time, or characters stand between bars
 abbrev pub is_dump : Text → Bool
-is_dump line = has 58 line || has 124 line
+is_dump line = has 124 line || is_placed (words_of line)
 
 -- the hint on an input that is refused for this line
 abbrev pub hint_of_line : Text → Text → Option Hint
 hint_of_line input line =
     if is_marked input then Some hint.Mark
     else if is_wide input then Some hint.Wide
+    else if has 13 line then Some hint.Return
     else if has 35 line then Some hint.Remark
     else None
 
@@ -47,12 +58,15 @@ hint_of_hex input first =
     else if is_capture input then Some hint.Capture
     else if is_message input then Some hint.Octets
     else if is_dump first then Some hint.Dump
+    else if has 35 input then Some hint.HexRemark
     else None
 
 abbrev pub hint_text : Hint → Text
 hint_text hint.Mark = codes "the input begins with a byte order mark: save it without one"
 hint_text hint.Wide = codes "the input is UTF-16: save it as ASCII or UTF-8"
 hint_text hint.Remark = codes "a remark stands on a line of its own, '#' in front"
+hint_text hint.Return = codes "a CR alone ends no line: save the input with LF behind each line"
 hint_text hint.Capture = codes "the input is a capture: tools/streams prints what its sessions say, and their hex"
 hint_text hint.Octets = codes "the input is octets: 'xxd -p FILE | bgpnet decode' hands them on as hex"
 hint_text hint.Dump = codes "the input is a hexdump: 'xxd -p FILE' writes the digits alone"
+hint_text hint.HexRemark = codes "decode reads digits and blanks alone: take the remarks ('#') out"

@@ -1,4 +1,11 @@
+pub mod Tables
 pub mod Meanings
 pub mod Refusals
 pub mod Hints
+pub mod Faults
+pub mod Showing
+pub mod Spelling
+pub mod Places
+pub mod Reasons
+pub mod Advice
 pub mod Saying

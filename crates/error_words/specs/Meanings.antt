@@ -1,12 +1,7 @@
 -- What the codes of refusals mean: one sentence for each.
-use Rattle.std.specs.Prelude.{ℕ, zero, suc, List, [], ◌∷◌, codes, if◌then◌else◌}
-use denote.Ref.{Bor}
+use Rattle.std.specs.Prelude.{ℕ, zero, suc, List, [], ◌∷◌, unwrap_or, codes, if◌then◌else◌}
 use Rattle.net_text.specs.Lexing.{Text, same}
-
--- the meaning of a code by these rows, or where it is told
-abbrev pub meaning_in : List (Text × Text) → Text → Text
-meaning_in [] code = codes "docs/TEXTS.md says what it means"
-meaning_in (row ∷ rows) code = if same code row.0 then row.1 else meaning_in rows code
+use Rattle.error_words.specs.Tables.{found_in}
 
 -- what a line of a network or an assignment is refused for, what an order is, and what a run in threads is
 abbrev pub meanings : List (Text × Text)
@@ -32,12 +27,9 @@ meanings =
     ∷ (codes "G4", codes "the offers on the board are not those that the workers wrote down")
     ∷ []
 
--- a row of the code's table
-abbrev pub row_of : Bor Text × Bor Text → Text × Text
-row_of row = (row.0.now, row.1.now)
-
+-- the meaning of a code, or where it is told
 abbrev pub meaning : Text → Text
-meaning code = meaning_in meanings code
+meaning code = unwrap_or (found_in meanings code) (codes "docs/TEXTS.md says what it means")
 
 -- the meaning of a code of a whole input, which has no line at fault
 abbrev pub whole_meaning : Text → Text

@@ -1,27 +1,19 @@
 -- What the program says on the standard error: lines that each begin with its name.
-use Rattle.std.specs.Prelude.{ℕ, zero, suc, ◌==◌, ◌||◌, nat_le, ◌&&◌, not, Bool, [], ◌++◌, length, take, map, Option, None, Some, unwrap_or, codes, decimal, if◌then◌else◌}
+use Rattle.std.specs.Prelude.{ℕ, zero, suc, ◌==◌, ◌||◌, ◌&&◌, not, Bool, [], ◌++◌, Option, None, Some, unwrap_or, codes, decimal, if◌then◌else◌}
 use Rattle.text_engines.specs.declared.status.TheConstants.{REFUSED, USAGE, STOPPED}
 use Rattle.net_text.specs.Lexing.{Text, words_of, same, begins_with}
 use Rattle.net_text.specs.Printing.{line}
-use Rattle.error_words.specs.declared.saying.TheConstants.{MOST_SHOWN}
 use Rattle.text_engines.specs.declared.transfer.TheConstants.{INPUT_LIMIT}
 use Rattle.error_words.specs.declared.hints.Hint.{Hint}
 use Rattle.error_words.specs.declared.saying.End.{End}
-use Rattle.error_words.specs.Meanings.{meaning_at}
+use Rattle.error_words.specs.Showing.{shown, remark_text}
+use Rattle.error_words.specs.Faults.{fault_of}
+use Rattle.error_words.specs.Reasons.{reason}
+use Rattle.error_words.specs.Advice.{advice}
 use Rattle.error_words.specs.Refusals.{Refused, refusal_in, without_mark, line_at}
 use Rattle.error_words.specs.Hints.{hint_text, hint_of_line, hint_of_hex, has}
 
 -- ---- refusals
-
--- an octet as it is shown: a question mark if it is not a printable one of ASCII, a space for a tab
-abbrev pub shown_octet : ℕ → ℕ
-shown_octet x = if nat_le 32 x && nat_le x 126 then x else if x == 9 then 32 else 63
-
--- a line as it is shown, up to a bound
-abbrev pub shown : Text → Text
-shown text =
-    if nat_le (length text) MOST_SHOWN then map shown_octet text
-    else map shown_octet (take MOST_SHOWN text) ++ codes " .."
 
 abbrev pub place_text : ℕ → Text
 place_text zero = []
@@ -32,13 +24,10 @@ abbrev pub found_text : Option Text → Text
 found_text None = []
 found_text (Some text) = codes ": " ++ shown text
 
-unfoldable pub refusal_text : ℕ → Text → Option Text → Text
-refusal_text at code found = line (codes "bgpnet: " ++ (place_text at ++ (code ++ (codes ": " ++ (meaning_at at code ++ found_text found)))))
+unfoldable pub refusal_text : Text → ℕ → Text → Option Text → Text
+refusal_text input at code found = line (codes "bgpnet: " ++ (place_text at ++ (code ++ (codes ": " ++ (reason input at code found ++ found_text found)))))
 
 -- ---- hints
-
-unfoldable pub remark_text : Text → Text
-remark_text text = line (codes "bgpnet: " ++ text)
 
 abbrev pub hint_said : Option Hint → Text
 hint_said None = []
@@ -52,16 +41,29 @@ no_hex = codes "the input has an octet that is no hex digit and no blank, or hal
 abbrev pub first_line : Text → Text
 first_line input = unwrap_or (line_at input 1) []
 
+-- a hint on the line, or what to write in its place
+abbrev pub helped_said : Option Hint → Text → Text
+helped_said None other = other
+helped_said (Some hint) other = remark_text (hint_text hint)
+
+unfoldable pub line_said : Text → ℕ → Text → Text → Text
+line_said input at code line = helped_said (hint_of_line input line) (advice input at code line)
+
 abbrev pub named_said : Text → Option Refused → Text
 named_said input None = []
 named_said input (Some refused) =
-    refusal_text refused.at refused.code (line_at input refused.at)
-    ++ hint_said (hint_of_line input (unwrap_or (line_at input refused.at) []))
+    refusal_text input refused.at refused.code (line_at input refused.at)
+    ++ line_said input refused.at refused.code (unwrap_or (line_at input refused.at) [])
+
+-- of a fault its name, else of a refusal why
+abbrev pub fault_said : Option Text → Text → Text → Text
+fault_said (Some text) last input = remark_text text
+fault_said None last input = named_said input (refusal_in (without_mark (words_of last)))
 
 abbrev pub refused_said : Text → Text → Text
 refused_said last input =
     if same last (codes "bad hex") then remark_text no_hex ++ hint_said (hint_of_hex input (first_line input))
-    else named_said input (refusal_in (without_mark (words_of last)))
+    else fault_said (fault_of last) last input
 
 abbrev pub stopped_said : Bool → Text
 stopped_said read_failed = remark_text (if read_failed then codes "the standard input can't be read" else codes "the standard output can't be written")
@@ -73,6 +75,7 @@ abbrev pub reads_alone : Text → Bool
 reads_alone word =
     same word (codes "decode") || same word (codes "check") || same word (codes "play") || same word (codes "trace")
     || same word (codes "run") || same word (codes "record") || same word (codes "stable")
+    || same word (codes "safe")
 
 -- a word that reads an input, and what stands behind it
 abbrev pub usage_of : Text → Option Text

@@ -1,13 +1,14 @@
 //! A writer that keeps the last octets that it wrote.
 
-ghost use Rattle.std.specs.Prelude.{◌≡◌, ◌≢◌, ◌-◌, ◌<◌, ◌≤◌, ◌⊎◌, ◌++◌, ℕ, length, take, drop, slice_index, IfOk, OnOk, OnErr, true};
+ghost use Rattle.std.specs.Prelude.{◌≡◌, ◌≢◌, ◌-◌, ◌<◌, ◌≤◌, ◌⊎◌, ◌++◌, ℕ, length, take, drop, replicate, slice_index, IfOk, OnOk, OnErr, true};
 ghost use Rattle.std.specs.Io.{WritesAtMost};
 ghost use Rattle.std.specs.Io.KnownBytes.{WriteAppends};
+ghost use Rattle.error_words.specs.declared.ending.TheConstants.{KEPT};
 
 use text_engines::{IoStopped, Sink};
 
-// How many octets at the end of the output are kept: more than a line `# refused LINE CODE` has.
-const KEPT: usize = 64;
+// How many octets at the end of the output are kept: as many as the longest message has in hex, with its line end.
+const KEPT: usize = 8193;
 
 /// A writer that keeps the last octets that it wrote.
 #[derive(Drop)]
@@ -64,9 +65,10 @@ fn push_many(last: &mut [u8], octets: &[u8])
 impl<T> Ending<T> {
     /// A writer that wrote nothing yet.
     pub fn new(inner: T) -> Ending<T>
-        ensures { result.inner ≡ inner }
-    {
+        ensures inner { result.inner ≡ inner }
         // Line ends: the first line that is written is then a line behind one.
+        ensures last { result.last ≡ replicate KEPT 10 }
+    {
         Ending {
             inner,
             last: [b'\n'; KEPT],
@@ -76,9 +78,9 @@ impl<T> Ending<T> {
     /// The line that was written last, if it has an end, without that end. It goes from the line
     /// end before it on, as far as it is kept.
     pub fn line(&self) -> &[u8]
-        ensures back { result.now ≡ drop (63 - length result.now) (take 63 self.now.last) }
-        ensures one { (k : ℕ) → 63 - length result.now ≤ k → k < 63 → slice_index (take 63 self.now.last) k ≢ 10 }
-        ensures first { length result.now < 63 → slice_index (take 63 self.now.last) (63 - length result.now - 1) ≡ 10 }
+        ensures back { result.now ≡ drop (8192 - length result.now) (take 8192 self.now.last) }
+        ensures one { (k : ℕ) → 8192 - length result.now ≤ k → k < 8192 → slice_index (take 8192 self.now.last) k ≢ 10 }
+        ensures first { length result.now < 8192 → slice_index (take 8192 self.now.last) (8192 - length result.now - 1) ≡ 10 }
     {
         let (text, _) = self.last.split_at(KEPT - 1);
         last_line(text)

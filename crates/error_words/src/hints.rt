@@ -1,7 +1,11 @@
 //! What a user may have meant.
 
 ghost use Rattle.std.specs.Prelude.{◌≡◌};
-ghost use Rattle.error_words.specs.Hints.{has, is_marked, is_wide, is_capture, is_message, is_dump, hint_of_line, hint_of_hex, hint_text};
+ghost use Rattle.std.specs.List.{list_all};
+ghost use Rattle.net_text.specs.Lexing.{words_of};
+ghost use Rattle.error_words.specs.Hints.{has, is_marked, is_wide, is_capture, is_message, is_place_octet, is_placed, is_dump, hint_of_line, hint_of_hex, hint_text};
+
+use net_text::lexing::next_word;
 
 /// What a user may have meant whose input is refused.
 #[derive(Clone, Copy)]
@@ -10,6 +14,8 @@ pub enum Hint {
     Mark,
     /// The input is UTF-16.
     Wide,
+    /// The line has a CR that ends no line.
+    Return,
     /// A remark stands behind other words.
     Remark,
     /// The input is a capture.
@@ -18,6 +24,8 @@ pub enum Hint {
     Octets,
     /// The input is a hexdump, with places and characters.
     Dump,
+    /// Remarks stand in hex.
+    HexRemark,
 }
 
 /// Whether a text has an octet.
@@ -55,10 +63,36 @@ fn is_message(input: &[u8]) -> bool
     input.starts_with(&[255; 16])
 }
 
+// Whether an octet is one of a place or a time.
+fn is_place_octet(x: u8) -> bool
+    ensures { result ≡ is_place_octet x }
+{
+    match x {
+        b'0'..=b':' | b'a'..=b'f' | b'A'..=b'F' | b'x' | b'.' => true,
+        _ => false,
+    }
+}
+
+fn are_place_octets(word: &[u8]) -> bool
+    ensures { result ≡ list_all is_place_octet word.now }
+{
+    word.iter().all(|x| is_place_octet(*x))
+}
+
+// Whether a line begins with a place or a time.
+fn is_placed(line: &[u8]) -> bool
+    ensures { result ≡ is_placed (words_of line.now) }
+{
+    match next_word(line) {
+        Some((word, _)) => has(b':', word) && are_place_octets(word),
+        None => false,
+    }
+}
+
 fn is_dump(line: &[u8]) -> bool
     ensures { result ≡ is_dump line.now }
 {
-    has(b':', line) || has(b'|', line)
+    has(b'|', line) || is_placed(line)
 }
 
 /// The hint on an input that is refused for a line, if there is one.
@@ -69,6 +103,8 @@ pub(crate) fn hint_of_line(input: &[u8], line: &[u8]) -> Option<Hint>
         Some(Hint::Mark)
     } else if is_wide(input) {
         Some(Hint::Wide)
+    } else if has(b'\r', line) {
+        Some(Hint::Return)
     } else if has(b'#', line) {
         Some(Hint::Remark)
     } else {
@@ -90,6 +126,8 @@ pub(crate) fn hint_of_hex(input: &[u8], first: &[u8]) -> Option<Hint>
         Some(Hint::Octets)
     } else if is_dump(first) {
         Some(Hint::Dump)
+    } else if has(b'#', input) {
+        Some(Hint::HexRemark)
     } else {
         None
     }
@@ -102,11 +140,13 @@ pub(crate) fn hint_text(hint: Hint) -> &'static [u8]
     match hint {
         Hint::Mark => b"the input begins with a byte order mark: save it without one",
         Hint::Wide => b"the input is UTF-16: save it as ASCII or UTF-8",
+        Hint::Return => b"a CR alone ends no line: save the input with LF behind each line",
         Hint::Remark => b"a remark stands on a line of its own, '#' in front",
         Hint::Capture => {
             b"the input is a capture: tools/streams prints what its sessions say, and their hex"
         }
         Hint::Octets => b"the input is octets: 'xxd -p FILE | bgpnet decode' hands them on as hex",
         Hint::Dump => b"the input is a hexdump: 'xxd -p FILE' writes the digits alone",
+        Hint::HexRemark => b"decode reads digits and blanks alone: take the remarks ('#') out",
     }
 }

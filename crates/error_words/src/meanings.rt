@@ -1,8 +1,9 @@
 //! The meanings of the codes of refusals.
 
-ghost use Rattle.std.specs.Prelude.{◌≡◌, map};
-ghost use Rattle.error_words.specs.Meanings.{row_of, meaning_in, meaning, whole_meaning, meaning_at};
+ghost use Rattle.std.specs.Prelude.{◌≡◌};
+ghost use Rattle.error_words.specs.Meanings.{meaning, whole_meaning, meaning_at};
 
+use crate::tables::found_in;
 use net_text::lexing::same;
 
 // Each code of a line, and its meaning.
@@ -29,23 +30,11 @@ static MEANINGS: [(&[u8], &[u8]); 19] = [
     (b"G4", b"the offers on the board are not those that the workers wrote down"),
 ];
 
-// The meaning of a code by these rows, or where it is told.
-fn meaning_in(rows: &[(&'static [u8], &'static [u8])], code: &[u8]) -> &'static [u8]
-    ensures { result.now ≡ meaning_in (map row_of rows.now) code.now }
-{
-    for row in rows {
-        if same(code, row.0) {
-            return row.1;
-        }
-    }
-    b"docs/TEXTS.md says what it means"
-}
-
 // The meaning of a code of a line.
 fn meaning(code: &[u8]) -> &'static [u8]
     ensures { result.now ≡ meaning code.now }
 {
-    meaning_in(&MEANINGS, code)
+    found_in(&MEANINGS, code).unwrap_or(b"docs/TEXTS.md says what it means")
 }
 
 // The meaning of a code of the whole input.

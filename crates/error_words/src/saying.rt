@@ -1,21 +1,22 @@
 //! The text said on the standard error.
 
-ghost use Rattle.std.specs.Prelude.{◌≡◌, ◌++◌, map, Some, OnOk, IfOk};
+ghost use Rattle.std.specs.Prelude.{◌≡◌, ◌++◌, Some, OnOk, IfOk};
 ghost use Rattle.std.specs.Option.{option_copied};
 ghost use Rattle.error_words.specs.Hints.{hint_of_hex};
-ghost use Rattle.error_words.specs.Saying.{shown_octet, shown, place_text, found_text, refusal_text, remark_text, hint_said, no_hex, named_said, refused_said, stopped_said, said, first_line};
+ghost use Rattle.error_words.specs.Showing.{remark_text};
+ghost use Rattle.error_words.specs.Saying.{place_text, found_text, refusal_text, hint_said, no_hex, line_said, named_said, refused_said, stopped_said, said, first_line};
 
-use crate::hints::{Hint, has, hint_of_hex, hint_of_line, hint_text};
-use crate::meanings::meaning_at;
+use crate::advice::put_advice;
+use crate::faults::fault_of;
+use crate::hints::{Hint, hint_of_hex, hint_of_line, hint_text};
+use crate::reasons::put_reason;
 use crate::refusals::{line_at, refusal_of};
+use crate::showing::{put_remark, put_shown};
 use crate::usage::put_words;
 use net_text::lexing::same;
 use net_text::put_len;
 use std::alloc::{AllocError, Global};
 use text_engines::status::{REFUSED, STOPPED, USAGE};
-
-/// How many octets of a line are shown at most.
-pub const MOST_SHOWN: usize = 60;
 
 /// How a run of the program ended, and what is known of it.
 #[derive(Clone, Copy)]
@@ -32,39 +33,6 @@ pub struct End<'a> {
     pub last: &'a [u8],
     /// The front of the input.
     pub input: &'a [u8],
-}
-
-// An octet as it is shown.
-fn shown_octet(x: u8) -> u8
-    ensures { result ≡ shown_octet x }
-{
-    match x {
-        b' '..=b'~' => x,
-        b'\t' => b' ',
-        _ => b'?',
-    }
-}
-
-// Appends octets as they are shown.
-fn put_octets(out: &mut Vec<u8>, octets: &[u8]) -> Result<(), AllocError>
-    ensures { OnOk result (out.new.items ≡ out.old.items ++ map shown_octet octets.now) }
-{
-    for x in octets {
-        out.extend_from_slice(&[shown_octet(*x)])?;
-    }
-    Ok(())
-}
-
-/// Appends a line as it is shown.
-pub(crate) fn put_shown(out: &mut Vec<u8>, line: &[u8]) -> Result<(), AllocError>
-    ensures { OnOk result (out.new.items ≡ out.old.items ++ shown line.now) }
-{
-    if line.len() <= MOST_SHOWN {
-        return put_octets(out, line);
-    }
-    let (front, _) = line.split_at(MOST_SHOWN);
-    put_octets(out, front)?;
-    out.extend_from_slice(b" ..")
 }
 
 // Appends of which line a refusal is.
@@ -93,27 +61,19 @@ fn put_found(out: &mut Vec<u8>, found: Option<&[u8]>) -> Result<(), AllocError>
 #[tactic(auto, unfolding(crate::specs::Saying::refusal_text))]
 fn put_refusal(
     out: &mut Vec<u8>,
+    input: &[u8],
     at: u64,
     code: &[u8],
     found: Option<&[u8]>,
 ) -> Result<(), AllocError>
-    ensures { OnOk result (out.new.items ≡ out.old.items ++ refusal_text at code.now (option_copied found.entry)) }
+    ensures { OnOk result (out.new.items ≡ out.old.items ++ refusal_text input.now at code.now (option_copied found.entry)) }
 {
     out.extend_from_slice(b"bgpnet: ")?;
     put_place(out, at)?;
     out.extend_from_slice(code)?;
     out.extend_from_slice(b": ")?;
-    out.extend_from_slice(meaning_at(at, code))?;
+    put_reason(out, input, at, code, found)?;
     put_found(out, found)?;
-    out.extend_from_slice(b"\n")
-}
-
-#[tactic(auto, unfolding(crate::specs::Saying::remark_text))]
-fn put_remark(out: &mut Vec<u8>, text: &[u8]) -> Result<(), AllocError>
-    ensures { OnOk result (out.new.items ≡ out.old.items ++ remark_text text.now) }
-{
-    out.extend_from_slice(b"bgpnet: ")?;
-    out.extend_from_slice(text)?;
     out.extend_from_slice(b"\n")
 }
 
@@ -126,14 +86,38 @@ fn put_hint(out: &mut Vec<u8>, hint: Option<Hint>) -> Result<(), AllocError>
     }
 }
 
+// Appends the words that help with a line: a hint on it, or what to write in its place.
+#[tactic(auto, unfolding(crate::specs::Saying::line_said))]
+fn put_help(
+    alloc: Global,
+    out: &mut Vec<u8>,
+    input: &[u8],
+    at: u64,
+    code: &[u8],
+    line: &[u8],
+) -> Result<(), AllocError>
+    ensures { OnOk result (out.new.items ≡ out.old.items ++ line_said input.now at code.now line.now) }
+{
+    match hint_of_line(input, line) {
+        Some(hint) => put_remark(out, hint_text(hint)),
+        None => put_advice(alloc, out, input, at, code, line),
+    }
+}
+
 // Appends the words on a line that is refused.
-fn put_named(out: &mut Vec<u8>, input: &[u8], at: u64, code: &[u8]) -> Result<(), AllocError>
+fn put_named(
+    alloc: Global,
+    out: &mut Vec<u8>,
+    input: &[u8],
+    at: u64,
+    code: &[u8],
+) -> Result<(), AllocError>
     ensures { OnOk result
         (out.new.items ≡ out.old.items ++ named_said input.now (Some (record { at = at; code = code.now }))) }
 {
     let found = line_at(input, at);
-    put_refusal(out, at, code, found)?;
-    put_hint(out, hint_of_line(input, found.unwrap_or(b"")))
+    put_refusal(out, input, at, code, found)?;
+    put_help(alloc, out, input, at, code, found.unwrap_or(b""))
 }
 
 // Appends the words on an input that is no hex.
@@ -150,14 +134,22 @@ fn put_no_hex(out: &mut Vec<u8>, input: &[u8]) -> Result<(), AllocError>
     put_hint(out, hint_of_hex(input, first.unwrap_or(b"")))
 }
 
-fn put_refused(out: &mut Vec<u8>, last: &[u8], input: &[u8]) -> Result<(), AllocError>
+fn put_refused(
+    alloc: Global,
+    out: &mut Vec<u8>,
+    last: &[u8],
+    input: &[u8],
+) -> Result<(), AllocError>
     ensures { OnOk result (out.new.items ≡ out.old.items ++ refused_said last.now input.now) }
 {
     if same(last, b"bad hex") {
         return put_no_hex(out, input);
     }
+    if let Some(fault) = fault_of(last) {
+        return put_remark(out, fault);
+    }
     match refusal_of(last) {
-        Some((at, code)) => put_named(out, input, at, code),
+        Some((at, code)) => put_named(alloc, out, input, at, code),
         None => Ok(()),
     }
 }
@@ -172,12 +164,12 @@ fn put_stopped(out: &mut Vec<u8>, read_failed: bool) -> Result<(), AllocError>
     }
 }
 
-fn put_said(out: &mut Vec<u8>, end: &End) -> Result<(), AllocError>
+fn put_said(alloc: Global, out: &mut Vec<u8>, end: &End) -> Result<(), AllocError>
     ensures { OnOk result (out.new.items ≡ out.old.items ++ said end.now) }
 {
     match end.status {
         STOPPED => put_stopped(out, end.read_failed),
-        REFUSED => put_refused(out, end.last, end.input),
+        REFUSED => put_refused(alloc, out, end.last, end.input),
         USAGE => put_words(out, end.word, end.name),
         _ => Ok(()),
     }
@@ -189,6 +181,6 @@ pub fn said(alloc: Global, end: &End) -> Result<Vec<u8>, AllocError>
     ensures { IfOk result (λ text. text.items ≡ said end.now) }
 {
     let mut text = Vec::new(alloc);
-    put_said(&mut text, end)?;
+    put_said(alloc, &mut text, end)?;
     Ok(text)
 }

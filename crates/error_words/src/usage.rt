@@ -5,7 +5,7 @@ ghost use Rattle.std.specs.Option.{option_copied};
 ghost use Rattle.error_words.specs.Saying.{bound_of, reads_alone, usage_of, is_file, file_text, used_said, words_said};
 
 use crate::hints::has;
-use crate::saying::put_shown;
+use crate::showing::put_shown;
 use net_text::lexing::same;
 use std::alloc::AllocError;
 use text_engines::INPUT_LIMIT;
@@ -36,6 +36,7 @@ fn reads_alone(word: &[u8]) -> bool
         || same(word, b"run")
         || same(word, b"record")
         || same(word, b"stable")
+        || same(word, b"safe")
 }
 
 // What stands behind a word that reads an input.
