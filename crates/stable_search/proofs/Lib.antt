@@ -12,5 +12,6 @@ pub mod PartLemmas
 pub mod CountLemmas
 pub mod PlaceLemmas
 pub mod FixLemmas
+pub mod ReachLemmas
 pub mod RefusalLemmas
 pub mod CombineLemmas

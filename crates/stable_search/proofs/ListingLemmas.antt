@@ -186,6 +186,20 @@ closed p most more seat not x = record {
   few = x.few;
 }
 
+-- nor is anything where it has no path of more routers
+bounded : (p : Problem) (most more : ℕ) (seat : Seat) → ((paths : ℕ → List ℕ) → IsStable p paths → length (paths seat.router) ≤ most) → IsListing p most seat → IsListing p more seat
+bounded p most more seat short x = record {
+  table = x.table;
+  of = x.of;
+  origin = x.origin;
+  speaks = x.speaks;
+  other = x.other;
+  may = x.may;
+  has = λ paths stable low. x.has paths stable (λ is_open. short paths stable);
+  distinct = x.distinct;
+  few = x.few;
+}
+
 -- what it may have begins with it
 begins : (p : Problem) (most : ℕ) (seat : Seat) (x : IsListing p most seat) (path : List ℕ) → Contains seat.values.items path → 0 < length path → BeginsWith path seat.router
 begins p most seat x path c some = elim (x.may path c) [
@@ -392,19 +406,26 @@ module _ (p : Problem) where
       omega (arith, first, second, length-map xs (λ (s : Seat). s.router), length-map ys (λ (s : Seat). s.router))
 
   module _ (most done : ℕ) (seats : List Seat) (are : AreListed p most done seats) where
-    -- the next place has all already
-    pub listed_whole : (seat : Seat) → StandsAt seats done seat → (IsTrue seat.is_open → ⊥) → AreListed p most (done + 1) seats
-    listed_whole seat at not = record {
+    -- the next place has all
+    listed_as : (seat : Seat) → StandsAt seats done seat → IsListing p (most + 1) seat → AreListed p most (done + 1) seats
+    listed_as seat at listing = record {
       routers = are.routers;
       each = are.each;
       first = λ i s lt st. elim (cases_order i done) [
         | inl same ↦
             let now : StandsAt seats done s = subst (λ (n : ℕ). StandsAt seats n s) same st in
             let one : seat ≡ s = sym at.1 ∙ get_or_default seats done seat s at.0 ∙ now.1 in
-            subst (IsListing p (most + 1)) one (closed p most (most + 1) seat not (here (IsListing p most) seats done seat are.each at))
+            subst (IsListing p (most + 1)) one listing
         | inr differ ↦ are.first i s (elim differ [ inl l ↦ l | inr m ↦ absurd (omega (arith, lt, m)) ]) st
       ];
     }
+
+    -- it has all already, since its paths are not found by rounds, or since it has none that is longer
+    pub listed_whole : (seat : Seat) → StandsAt seats done seat → (IsTrue seat.is_open → ⊥) → AreListed p most (done + 1) seats
+    listed_whole seat at not = listed_as seat at (closed p most (most + 1) seat not (here (IsListing p most) seats done seat are.each at))
+
+    pub listed_short : (seat : Seat) → StandsAt seats done seat → ((paths : ℕ → List ℕ) → IsStable p paths → length (paths seat.router) ≤ most) → AreListed p most (done + 1) seats
+    listed_short seat at short = listed_as seat at (bounded p most (most + 1) seat short (here (IsListing p most) seats done seat are.each at))
 
     -- or it has all now
     listed_more : (old new : Seat) → StandsAt seats done old → new.router ≡ old.router → IsListing p (most + 1) new → AreListed p most (done + 1) (set seats done new)

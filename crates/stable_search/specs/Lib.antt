@@ -6,6 +6,7 @@ pub mod Picks
 pub mod Seats
 pub mod Choosers
 pub mod Fixing
+pub mod Reaching
 pub mod Listing
 pub mod Groups
 pub mod Parting

@@ -20,8 +20,8 @@ use ranked_policy::{Asn, Chosen, LONGEST_PATH, Network, Path};
 use stable_paths::Instance;
 use std::alloc::{AllocError, Global};
 
-// The fixed path at a place.
-fn path_at(fixed: &[Option<Path>], place: usize) -> Option<&[Asn]>
+/// The fixed path at a place.
+pub(crate) fn path_at(fixed: &[Option<Path>], place: usize) -> Option<&[Asn]>
     ensures { MatchOption result (slice_index_or fixed.now place None ≡ None)
         (λ path. slice_index_or fixed.now place None ≡ Some path.now) }
 {
@@ -56,8 +56,8 @@ fn is_better_than_at(it: &Chooser, fixed: &[Option<Path>], theirs: &[Asn], place
     }
 }
 
-// The place of the peer with the best fixed path that the router permits.
-fn best_peer(
+/// The place of the peer with the best fixed path that the router permits.
+pub(crate) fn best_peer(
     network: &Network,
     choosers: &[Chooser],
     fixed: &[Option<Path>],

@@ -13,13 +13,15 @@
 //! the origin: a router whose best path over a fixed peer is better than any that another peer could bring has that
 //! path in every stable assignment. A network without rules is answered by that alone. The paths of the other routers
 //! without a rule are found by rounds, the shorter first. Each round finds the paths along those of so many routers
-//! that their peers may have, but none that falls behind the path along the only path of a peer. A router for which 64
-//! or more are found, the empty one among them, is refused.
+//! that their peers may have, but none that falls behind the path along the only path of a peer, and none that is too
+//! long: a router whose rule lists a path that a fixed peer offers has one no longer than its rule lists, and a router
+//! without a rule beside a peer that surely has a path has one of at most one router more. A router for which 64 or more
+//! are found, the empty one among them, is refused.
 //!
 //! The definitions stand in `specs/`: `Fits` (what fits, and that stable is fitting), `Every` (what is
 //! answered), `Refusals` (what a refusal says), `Counting` (how many there are), `Choosers` and `Fixing`
-//! (routers that have one path in every stable assignment), `Listing` (what the others without a rule may
-//! have), `Picks`, `Seats`, `Groups` and `Parting` (what the functions inside say).
+//! (routers that have one path in every stable assignment), `Reaching` (how long paths may be), `Listing` (what the
+//! others without a rule may have), `Picks`, `Seats`, `Groups` and `Parting` (what the functions inside say).
 //!
 //! Left out: routers without a rule for which so many paths are found; texts.
 #![tactic(auto)]
@@ -36,6 +38,7 @@ mod listing;
 mod narrowing;
 mod parting;
 mod picking;
+mod reach;
 mod refusal;
 mod relating;
 mod searching;

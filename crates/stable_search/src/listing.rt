@@ -7,6 +7,7 @@ ghost use Rattle.ranked_policy.specs.Choosing.{chosen_permits};
 ghost use Rattle.ranked_policy.specs.Plans.{numbers};
 ghost use Rattle.ranked_policy.specs.declared.limits.TheConstants.{LONGEST_PATH};
 ghost use Rattle.stable_search.specs.Listing.{IsOnly, IsBound, IsKept, LeadsOn, GoesOn, GoesOnOver, AreOnward, AddsOnce, HasMany, IsExtended, IsListing, AreListed};
+ghost use Rattle.stable_search.specs.Reaching.{AreBounds};
 ghost use Rattle.stable_search.specs.Refusals.{IsPathsRefusal};
 ghost use Rattle.stable_search.specs.Seats.{IsSeat, StandsAt};
 ghost use Rattle.stable_search.specs.declared.seat.Seat.{Seat};
@@ -147,16 +148,19 @@ fn extend(alloc: Global, seat: &mut Seat, paths: &[Path]) -> Result<(), SearchEr
 }
 
 // Adds the paths of the router at a place along those of peers that have so many routers, if its paths are found by
-// rounds.
+// rounds and may be so long.
 fn list_at(
     alloc: Global,
     instance: &Instance,
+    bounds: &[usize],
     seats: &mut Vec<Seat>,
     place: usize,
     count: usize,
 ) -> Result<(), SearchError>
     requires place { place < length seats.old.items }
     requires some { 0 < count }
+    requires below { count < LONGEST_PATH }
+    requires bounds { AreBounds instance.now bounds.now }
     requires listed { AreListed instance.now count place seats.old.items }
     ensures listed { OnOk result (AreListed instance.now count (place + 1) seats.new.items) }
     ensures refused { IfErr result (IsPathsRefusal instance.now) }
@@ -165,6 +169,9 @@ fn list_at(
     the_longest_rule_is_one();
     let network = instance.network();
     if !seats[place].is_open {
+        return Ok(());
+    }
+    if bounds[place] <= count {
         return Ok(());
     }
     let found = onward_at(alloc, network, seats.as_slice(), place, count)?;
@@ -176,30 +183,36 @@ fn list_at(
 fn list_round(
     alloc: Global,
     instance: &Instance,
+    bounds: &[usize],
     seats: &mut Vec<Seat>,
     count: usize,
 ) -> Result<(), SearchError>
     requires some { 0 < count }
+    requires below { count < LONGEST_PATH }
+    requires bounds { AreBounds instance.now bounds.now }
     requires listed { AreListed instance.now count 0 seats.old.items }
     ensures listed { OnOk result (AreListed instance.now (count + 1) 0 seats.new.items) }
     ensures refused { IfErr result (IsPathsRefusal instance.now) }
 {
     for place in 0..seats.len() {
-        list_at(alloc, instance, seats, place, count)?;
+        list_at(alloc, instance, bounds, seats, place, count)?;
     }
     Ok(())
 }
 
 /// Finds the paths that routers may have if no rule lists their paths. It goes by rounds: the paths of two routers
-/// first, then those of three, up to the longest.
+/// first, then those of three, up to the longest; of each router only up to its bound, by place, since it has no longer
+/// path in a stable assignment.
 ///
 /// Refused with [`SearchError::TooManyPaths`] and the first router, by round and then by number, that may have 64 paths
 /// or more, the empty one among them; with [`SearchError::Memory`] if a growth is refused.
 pub(crate) fn list_open(
     alloc: Global,
     instance: &Instance,
+    bounds: &[usize],
     seats: &mut Vec<Seat>,
 ) -> Result<(), SearchError>
+    requires bounds { AreBounds instance.now bounds.now }
     requires routers { map (λ seat. seat.router) seats.old.items ≡ numbers instance.now.net.routers }
     requires seats { All (IsListing instance.now 1) seats.old.items }
     ensures routers { OnOk result (map (λ seat. seat.router) seats.new.items ≡ numbers instance.now.net.routers) }
@@ -209,7 +222,7 @@ pub(crate) fn list_open(
     each_policy_is_an_order();
     let _network = instance.network();
     for count in 1..LONGEST_PATH {
-        list_round(alloc, instance, seats, count)?;
+        list_round(alloc, instance, bounds, seats, count)?;
     }
     Ok(())
 }

@@ -18,6 +18,7 @@ use crate::group::{Group, groups};
 use crate::laws::stable_is_fitting;
 use crate::limits::SearchLimits;
 use crate::listing::list_open;
+use crate::reach::reaches;
 use crate::refusal::SearchError;
 use crate::relating::ways_between;
 use crate::seat::{Seat, routers_at, seats};
@@ -113,8 +114,9 @@ fn all_seats<'a>(alloc: Global, instance: &Instance<'a>) -> Result<Vec<Seat<'a>>
     let choosers = all_choosers.as_slice();
     let distances = distances(alloc, instance, choosers)?;
     let fixed = fixed_paths(alloc, instance, choosers, distances.as_slice())?;
+    let bounds = reaches(alloc, instance, choosers, fixed.as_slice())?;
     let mut seats = seats(alloc, instance, choosers, fixed.as_slice())?;
-    list_open(alloc, instance, &mut seats)?;
+    list_open(alloc, instance, bounds.as_slice(), &mut seats)?;
     Ok(seats)
 }
 

@@ -1,6 +1,6 @@
 //! What a search lists for routers without a rule that may have several paths (`stable_search`).
 
-use super::networks::{DISAGREEING, Links, Plan, THREE_OVER_TWO, TRIANGLE, TWO_OVER_THREE};
+use super::networks::{DISAGREEING, Links, Plan, Rule, THREE_OVER_TWO, TRIANGLE, TWO_OVER_THREE};
 use super::searches::{LIMITS, Limit, counts, refuses};
 use super::stable_search_tests::finds_among;
 use ranked_policy::NetError;
@@ -76,11 +76,18 @@ const FIVE: Links = &[
     (7, 8),
 ];
 
-/// Behind one of two that disagree, each of five is linked with each other: each may have 130 paths, or none.
+/// Behind one of two that disagree, each of five is linked with each other: each has a path of at most 4 routers.
 static FIVE_BEHIND: Plan = Plan {
     routers: 8,
     links: &[TRIANGLE, FIVE],
     rules: DISAGREEING,
+};
+
+/// The network of `FIVE_BEHIND`, but 2 has no path that 1 surely offers: each of the five may have 65 paths, or none.
+static FIVE_BEHIND_ONE_UNSURE: Plan = Plan {
+    routers: 8,
+    links: &[TRIANGLE, FIVE],
+    rules: &[&[&[2, 3, 1]], THREE_OVER_TWO],
 };
 
 /// The five of `FIVE_BEHIND`, each linked with 9 too, which has one path. Each of the five thus has the path over 9, or
@@ -112,18 +119,24 @@ const MANY_PATHS: Links = &[
     (2, 9),
 ];
 
-/// Behind two that disagree, 4 may have 62 paths, or none, and 5 to 8 fewer. 9 has a rule.
+/// 2 prefers the way over 3, and permits one over each of 3 to 8 too: it may be as far as that.
+const TWO_FAR: Rule = &[&[2, 3, 1], &[2, 1], &[2, 5, 6, 8, 4, 7, 3, 1]];
+
+/// 3 prefers the way over 2, and may be as far as 2.
+const THREE_FAR: Rule = &[&[3, 2, 1], &[3, 1], &[3, 8, 4, 7, 6, 5, 2, 1]];
+
+/// Behind two that disagree, 4 may have 62 paths, and 5 to 8 fewer. 9 has a rule.
 static AT_THE_LIMIT: Plan = Plan {
     routers: 9,
     links: &[TRIANGLE, MANY_PATHS],
-    rules: &[TWO_OVER_THREE, THREE_OVER_TWO, &[&[9, 2, 1]]],
+    rules: &[TWO_FAR, THREE_FAR, &[&[9, 2, 1]]],
 };
 
 /// The network of `AT_THE_LIMIT`, but 4 is linked with 9 too and may have one path more.
 static PAST_THE_LIMIT: Plan = Plan {
     routers: 9,
     links: &[TRIANGLE, MANY_PATHS, &[(4, 9)]],
-    rules: &[TWO_OVER_THREE, THREE_OVER_TWO, &[&[9, 2, 1]]],
+    rules: &[TWO_FAR, THREE_FAR, &[&[9, 2, 1]]],
 };
 
 // What 4 has hangs on 2 alone, which has one of two.
@@ -148,6 +161,11 @@ fn five_beside_one_path(rt: HostRuntime) -> Result<(), NetError> {
 }
 
 #[test]
+fn five_behind_follow(rt: HostRuntime) -> Result<(), NetError> {
+    counts(&rt, rt.alloc(), &FIVE_BEHIND, &LIMITS, 2)
+}
+
+#[test]
 fn as_many_as_are_listed(rt: HostRuntime) -> Result<(), NetError> {
     counts(&rt, rt.alloc(), &AT_THE_LIMIT, &LIMITS, 2)
 }
@@ -162,5 +180,12 @@ fn more_than_are_listed(rt: HostRuntime) -> Result<(), NetError> {
         Limit::Paths,
         &[4],
     )?;
-    refuses(&rt, rt.alloc(), &FIVE_BEHIND, &LIMITS, Limit::Paths, &[4])
+    refuses(
+        &rt,
+        rt.alloc(),
+        &FIVE_BEHIND_ONE_UNSURE,
+        &LIMITS,
+        Limit::Paths,
+        &[4],
+    )
 }

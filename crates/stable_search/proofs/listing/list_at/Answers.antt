@@ -1,4 +1,4 @@
-use Rattle.std.proofs.Common.{◌≡◌, ◌∙◌, ℕ, List, sym, ap, subst, inl, inr}
+use Rattle.std.proofs.Common.{◌≡◌, ◌∙◌, ℕ, List, sym, ap, subst, arith, inl, inr}
 use Rattle.std.proofs.lemmas.Result.{err_from_is_err_and}
 use Rattle.std.specs.Prelude.{IsTrue}
 use Rattle.ranked_policy.specs.declared.network.Link.{Link}
@@ -9,13 +9,23 @@ use Rattle.stable_search.specs.Listing.{AreOnward, HasMany, IsExtended}
 use Rattle.stable_search.specs.Refusals.{IsPathsRefusal}
 use Rattle.stable_search.specs.Seats.{StandsAt}
 use Rattle.stable_search.proofs.GroupLemmas.{same_at}
-use Rattle.stable_search.proofs.ListingLemmas.{listed_whole, place_listed, place_full}
+use Rattle.stable_search.proofs.ListingLemmas.{listed_whole, listed_short, place_listed, place_full}
+use Rattle.stable_search.proofs.ReachLemmas.{short_at}
 use Rattle.stable_search.proofs.listing.list_at.Goals as goal
 
 pub returns-then-not-index-clause-listed : goal.returns-then-not-index-clause-listed
 returns-then-not-index-clause-listed c =
     let seat : Seat = c.index.result.now in
     listed_whole c.args.instance.now c.args.count c.args.place c.args.seats.now.items c.requires.listed seat (c.requires.place, sym c.index.ensures) (λ t. never (sym c.if-not-index.true ∙ t))
+
+pub returns-then-bounds-place-clause-listed : goal.returns-then-bounds-place-clause-listed
+returns-then-bounds-place-clause-listed c =
+    let p = c.args.instance.now in
+    let seats : List Seat = c.args.seats.now.items in
+    let seat : Seat = c.index.result.now in
+    let at : StandsAt seats c.args.place seat = (c.requires.place, sym c.index.ensures) in
+    listed_short p c.args.count c.args.place seats c.requires.listed seat at
+    (short_at p c.args.bounds.now c.requires.bounds seats c.requires.listed.routers c.args.place seat at c.args.count (omega (arith, c.if-bounds-place.true)) c.requires.below)
 
 pub returns-clause-listed : goal.returns-clause-listed
 returns-clause-listed c =
