@@ -1,0 +1,86 @@
+-- The text printed of the dispute wheels of a network, prefix by prefix.
+use Rattle.std.specs.Prelude.{◌≡◌, ◌≢◌, ℕ, Bool, List, [], ◌∷◌, ◌++◌, map, codes, Result, Ok, Err, is_ok, ◌⊎◌}
+use Rattle.std.specs.List.{All, flat_map, list_all}
+use Rattle.prefix_lanes.specs.Bits.{PrefixView}
+use Rattle.ranked_policy.specs.Plans.{Plan}
+use Rattle.ranked_policy.specs.declared.network.Origin.{Origin}
+use Rattle.net_text.specs.declared.code.Code.{Code}
+use Rattle.net_text.specs.declared.code.Code.TheVariants as kinds
+use Rattle.net_text.specs.Lexing.{Text}
+use Rattle.net_text.specs.Networks.{SpellsNetwork, RefusesNetwork}
+use Rattle.net_text.specs.Printing.{code_text}
+use Rattle.stable_engine.specs.Answers.{network_lines, status_of}
+use Rattle.stable_engine.specs.Listing.{unknown_line}
+use Rattle.text_engines.specs.Checking.{at_prefix}
+use Rattle.text_engines.specs.Decoding.{Output, output, refused, WithinLimit, OrMemory}
+use Rattle.wheel_search.specs.declared.rim.Safety.{Safety}
+use Rattle.wheel_search.specs.declared.refusal.WheelError.{WheelError}
+use Rattle.wheel_search.specs.declared.refusal.WheelError.TheVariants as search
+use Rattle.wheel_search.specs.Found.{IsAnswerOf, IsRefusal}
+use Rattle.safe_engine.specs.Listing.{safety_text}
+
+-- ---- the answer for a prefix
+
+abbrev pub Found : Type 0
+Found = Result Safety WheelError
+
+-- the answer for a prefix: that there is no dispute wheel, or one; or a refusal that means what it says. Want of memory is
+-- no answer
+abbrev pub IsFound : Plan → PrefixView → Found → Type 0
+IsFound net q (Ok safety) = IsAnswerOf (at_prefix net q) safety
+IsFound net q (Err why) = (why ≢ search.Memory) × IsRefusal (at_prefix net q) why
+
+abbrev pub refusal_text : PrefixView → WheelError → List ℕ
+refusal_text q (search.UnlistedPaths u) = unknown_line q (codes "paths") (u ∷ [])
+refusal_text q search.Memory = []
+
+abbrev pub found_text : PrefixView → Found → List ℕ
+found_text q (Ok safety) = safety_text q safety
+found_text q (Err why) = refusal_text q why
+
+-- ---- the text printed for a network
+
+pub record Answer : Type 0 where
+  pub prefix : PrefixView
+  pub found : Found
+
+abbrev pub answers_text : List Answer → List ℕ
+answers_text answers = flat_map (λ a. found_text a.prefix a.found) answers
+
+abbrev pub are_known : List Answer → Bool
+are_known answers = list_all (λ a. is_ok a.found) answers
+
+-- an answer for the prefix of each origin, with its text; and whether each is known
+pub record AreAnswered (net : Plan) (origins : List Origin) (text : List ℕ) (known : Bool) : Type 0 where
+  pub answers : List Answer
+  pub prefixes : map (λ a. a.prefix) answers ≡ map (λ o. o.prefix) origins
+  pub each : All (λ a. IsFound net a.prefix a.found) answers
+  pub printed : text ≡ answers_text answers
+  pub all_known : known ≡ are_known answers
+
+-- the new text is the old one, with the answer for a prefix at its end
+abbrev pub PutsFound : Plan → PrefixView → List ℕ → List ℕ → Bool → Type 0
+PutsFound net q old new known = (found : Found) × IsFound net q found × (new ≡ old ++ found_text q found) × (known ≡ is_ok found)
+
+-- the new text is the old one, with the answers for the prefixes of these origins at its end
+abbrev pub PutsAnswers : Plan → List Origin → List ℕ → List ℕ → Bool → Type 0
+PutsAnswers net origins old new known = (text : List ℕ) × AreAnswered net origins text known × (new ≡ old ++ text)
+
+-- an answer for each origin's prefix, by address, then by length, and the status that says whether all are known
+abbrev pub SafetyGives : Plan → Output → Type 0
+SafetyGives net out = (text : List ℕ) × (known : Bool) × AreAnswered net net.origins text known × (out ≡ output text (status_of known))
+
+-- ---- the text printed for an input
+
+abbrev pub LinesJudge : List Text → Output → Type 0
+LinesJudge lines out =
+    ((at : ℕ) × (code : Code) × (code ≢ kinds.Memory) × RefusesNetwork lines at code × (out ≡ refused at (code_text code)))
+    ⊎ ((net : Plan) × SpellsNetwork lines net × SafetyGives net out)
+
+-- the text for an input, which may be too long
+abbrev pub InputJudges : List ℕ → Output → Type 0
+InputJudges input out = WithinLimit (λ text. LinesJudge (network_lines text)) input out
+
+-- the text that the program prints: this one, or that memory ran out
+abbrev pub Judges : List ℕ → Output → Type 0
+Judges input out = OrMemory InputJudges input out

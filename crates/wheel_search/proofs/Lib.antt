@@ -1,0 +1,6 @@
+pub mod WaitLemmas
+pub mod LettingLemmas
+pub mod RuleLemmas
+pub mod RowLemmas
+pub mod GraphLemmas
+pub mod RimLemmas

@@ -1,0 +1,66 @@
+-- Paths that come to the origin, and what is let go.
+use Rattle.std.proofs.Common.{◌≡◌, ℕ, zero, suc, ◌<◌, ◌≤◌, ◌+◌, ◌↔◌, Bool, true, false, List, [], ◌∷◌, ◌++◌, length, get_or, set, refl, sym, ap, subst, ◌∙◌, arith, inl, inr}
+use Rattle.std.specs.Prelude.{slice_index, slice_index_or, cond, IsTrue}
+use mathlib.Core.Logic.{◌⊎◌}
+use Rattle.wheel_search.specs.declared.wait.Wait.{Wait}
+use Rattle.wheel_search.specs.declared.wait.Wait.TheVariants.{Never, Nothing, Rest}
+use Rattle.wheel_search.specs.Waits.{wait_of, count_of, ComesIn, Comes, AreWithin, IsFree}
+
+abbrev row_in : Wait → ℕ
+row_in Never = 0
+row_in Nothing = 0
+row_in (Rest next at) = next
+
+abbrev place_in : Wait → ℕ
+place_in Never = 0
+place_in Nothing = 0
+place_in (Rest next at) = at
+
+pub same_row : (v k w j : ℕ) → Rest v k ≡ Rest w j → v ≡ w
+same_row v k w j e = ap row_in e
+
+pub same_place : (v k w j : ℕ) → Rest v k ≡ Rest w j → k ≡ j
+same_place v k w j e = ap place_in e
+
+pub never_comes : (waits : List (List Wait)) (n r i : ℕ) → wait_of waits r i ≡ Never → ComesIn waits n r i → ⊥
+unfolding ComesIn
+never_comes waits zero r i is c = c
+never_comes waits (suc n) r i is (inl nothing) = absurd (cc (is, nothing))
+never_comes waits (suc n) r i is (inr x) = absurd (cc (is, x.2))
+
+pub nothing_comes : (waits : List (List Wait)) (n m r i : ℕ) → n ≡ suc m → wait_of waits r i ≡ Nothing → ComesIn waits n r i
+unfolding ComesIn
+nothing_comes waits n m r i e is = subst (λ (k : ℕ). ComesIn waits k r i) (sym e) (inl is)
+
+rest_comes : (waits : List (List Wait)) (m r i v k : ℕ) → wait_of waits r i ≡ Rest v k → ComesIn waits (suc m) r i → ComesIn waits m v k
+unfolding ComesIn
+rest_comes waits m r i v k is (inl nothing) = absurd (cc (is, nothing))
+rest_comes waits m r i v k is (inr x) =
+    let e = sym x.2 ∙ is in
+    subst (λ (w : ℕ). ComesIn waits m w k) (same_row x.0 x.1 v k e) (subst (λ (j : ℕ). ComesIn waits m x.0 j) (same_place x.0 x.1 v k e) x.3)
+
+pub comes_on : (waits : List (List Wait)) (n m r i v k : ℕ) → n ≡ suc m → wait_of waits r i ≡ Rest v k → (ComesIn waits n r i ↔ ComesIn waits m v k)
+unfolding ComesIn
+comes_on waits n m r i v k e is = (
+  λ c. rest_comes waits m r i v k is (subst (λ (x : ℕ). ComesIn waits x r i) e c),
+  λ c. subst (λ (x : ℕ). ComesIn waits x r i) (sym e) (inr (v, k, is, c)),
+)
+
+pub never_in : (waits : List (List Wait)) (r i : ℕ) → ComesIn waits zero r i → ⊥
+unfolding ComesIn
+never_in waits r i c = c
+
+pub comes_by : (waits : List (List Wait)) (n r i : ℕ) → ComesIn waits (suc n) r i
+    → (wait_of waits r i ≡ Nothing) ⊎ ((v : ℕ) × (k : ℕ) × (wait_of waits r i ≡ Rest v k) × ComesIn waits n v k)
+unfolding ComesIn
+comes_by waits n r i c = c
+
+-- ---- what is let go
+
+pub free_more : (waits : List (List Wait)) (n r i : ℕ) → IsFree waits n r i → IsFree waits (suc n) r i
+free_more waits zero r i f = absurd f
+free_more waits (suc n) r i f = λ better le c next at e. free_more waits n next at (f better le c next at e)
+
+pub free_rest : (waits : List (List Wait)) (n r i v k : ℕ) → IsFree waits n r i → (j : ℕ) → j ≤ i → Comes waits r j → wait_of waits r j ≡ Rest v k → IsFree waits n v k
+free_rest waits zero r i v k f j le c e = absurd f
+free_rest waits (suc n) r i v k f j le c e = free_more waits n v k (f j le c v k e)

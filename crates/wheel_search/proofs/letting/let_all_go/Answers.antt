@@ -1,0 +1,8 @@
+use Rattle.std.proofs.Common.{◌≡◌, ◌<◌, ℕ, subst, sym, arith}
+use Rattle.std.specs.Prelude.{slice_index}
+use Rattle.wheel_search.proofs.letting.let_all_go.Goals as goal
+
+pub returns : goal.returns
+returns c =
+    let gone = c.loop-row.invariant.gone in
+    (gone.turns, λ row place known below. gone.free row place (omega (arith, below, c.loop-row.invariant.all row (omega (arith, known, c.loop-row-test.false)))))

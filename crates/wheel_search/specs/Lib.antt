@@ -1,0 +1,5 @@
+pub mod Waits
+pub mod Letting
+pub mod Rows
+pub mod Found
+pub mod Rims

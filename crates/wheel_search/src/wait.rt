@@ -1,0 +1,152 @@
+//! What each path of a row waits for before it may be let go.
+
+ghost use Rattle.std.specs.Prelude.{◌≡◌, ◌↔◌, ◌+◌, ◌^◌, ◌<◌, ◌∷◌, [], ℕ, List, IfOk, IsTrue, MatchOption, length, slice_index_or};
+ghost use Rattle.std.specs.List.{Contains};
+ghost use Rattle.ranked_policy.specs.Paths.{BeginsWith};
+ghost use Rattle.wheel_search.specs.Rows.{AreRows, IsRow, IsWait, IsEachWait, AreWaits};
+ghost use Rattle.wheel_search.specs.Waits.{wait_of, Comes};
+
+use crate::row::{Kind, Row};
+use ranked_policy::laws::each_policy_is_an_order;
+use ranked_policy::{Asn, LONGEST_PATH, NetItems, Path, is_onward};
+use stable_paths::Instance;
+use std::alloc::{AllocError, Global};
+
+/// What a path waits for.
+#[derive(Clone, Copy, Debug)]
+pub(crate) enum Wait {
+    /// The path is not feasible.
+    Never,
+    /// For no other path: it is that of the origin alone.
+    Nothing,
+    /// For its rest, without which it is not feasible: the path at a place of another row.
+    Rest {
+        /// The row.
+        row: usize,
+        /// The place in the row.
+        place: usize,
+    },
+}
+
+// The place of the path by which another goes on from a router.
+fn place_of_rest(paths: &[Path], router: Asn, path: &[Asn]) -> Option<usize>
+    ensures { MatchOption result ((rest : List ℕ) → Contains paths.now rest → path.now ≡ router ∷ rest → ⊥)
+        (λ place. (place < length paths.now) × (place + 1 < 2 ^ 64)
+        × (path.now ≡ router ∷ slice_index_or paths.now place [])) }
+{
+    for (place, rest) in paths.iter().enumerate() {
+        if is_onward(path, router, rest.as_slice()) {
+            return Some(place);
+        }
+    }
+    None
+}
+
+// What a path of a row waits for that goes on over a peer.
+fn wait_over(instance: &Instance, rows: &[Row], row: &Row, peer: Asn, path: &[Asn]) -> Wait
+    requires rows { AreRows instance.now rows.now }
+    requires over { (rest : List ℕ) × (path.now ≡ row.now.seat.router ∷ peer ∷ rest) }
+    ensures { IsWait instance.now rows.now row.now path.now result }
+{
+    each_policy_is_an_order();
+    let network = instance.network();
+    let router = row.seat.router;
+    let Some(next) = network.place(peer) else {
+        return Wait::Never;
+    };
+    let Some(place) = place_of_rest(rows[next].paths(), router, path) else {
+        return Wait::Never;
+    };
+    if network.linked(router, peer) {
+        Wait::Rest { row: next, place }
+    } else {
+        Wait::Never
+    }
+}
+
+// What a path of a row waits for.
+fn wait_for(instance: &Instance, rows: &[Row], row: &Row, path: &[Asn]) -> Wait
+    requires rows { AreRows instance.now rows.now }
+    requires row { IsRow instance.now row.now }
+    requires begins { BeginsWith path.now row.now.seat.router }
+    ensures { IsWait instance.now rows.now row.now path.now result }
+{
+    each_policy_is_an_order();
+    let _network = instance.network();
+    match path {
+        [_first, peer, ..] => wait_over(instance, rows, row, *peer, path),
+        _ => match row.seat.kind {
+            Kind::Origin => Wait::Nothing,
+            Kind::Ranked(_) | Kind::Free => Wait::Never,
+        },
+    }
+}
+
+// What the paths of a row wait for.
+fn waits_of(
+    alloc: Global,
+    instance: &Instance,
+    rows: &[Row],
+    row: &Row,
+) -> Result<NetItems<Wait>, AllocError>
+    requires rows { AreRows instance.now rows.now }
+    requires row { IsRow instance.now row.now }
+    ensures { IfOk result (λ waits. IsEachWait instance.now rows.now row.now waits) }
+{
+    let paths = row.paths();
+    let mut waits = Vec::with_capacity(alloc, paths.len())?;
+    for path in paths {
+        waits.push(wait_for(instance, rows, row, path.as_slice()))?;
+    }
+    Ok(NetItems::from_vec(waits))
+}
+
+/// What the paths of each row wait for.
+pub(crate) fn all_waits(
+    alloc: Global,
+    instance: &Instance,
+    rows: &[Row],
+) -> Result<Vec<NetItems<Wait>>, AllocError>
+    requires { AreRows instance.now rows.now }
+    ensures { IfOk result (λ waits. AreWaits instance.now rows.now waits.items) }
+{
+    let mut waits = Vec::with_capacity(alloc, rows.len())?;
+    for row in rows {
+        waits.push(waits_of(alloc, instance, rows, row)?)?;
+    }
+    Ok(waits)
+}
+
+// What the path at a place of a row waits for.
+pub(crate) fn wait_at(waits: &[NetItems<Wait>], row: usize, place: usize) -> Wait
+    ensures { result ≡ wait_of waits.now row place }
+{
+    if row >= waits.len() {
+        return Wait::Never;
+    }
+    let of_row = waits[row].as_slice();
+    if place < of_row.len() {
+        of_row[place]
+    } else {
+        Wait::Never
+    }
+}
+
+/// Whether a path is feasible: from rest to rest it comes to the origin.
+pub(crate) fn comes(waits: &[NetItems<Wait>], row: usize, place: usize) -> bool
+    ensures { IsTrue result ↔ Comes waits.now row place }
+{
+    let mut on = row;
+    let mut at = place;
+    for _router in 0..LONGEST_PATH {
+        match wait_at(waits, on, at) {
+            Wait::Never => return false,
+            Wait::Nothing => return true,
+            Wait::Rest { row, place } => {
+                on = row;
+                at = place;
+            }
+        }
+    }
+    false
+}
