@@ -54,13 +54,13 @@ module _ (laws : Laws) (g : Setting) (net : IsNetwork g.net) (u : ℕ) (far : �
   -- what is known as it records: the router acting that acts, and its ends once the marker that came was taken
   pub record MayBegin (first : Option ℕ) (s : ℕ) (acting : ModelRouter) (ends : ℕ → End Message) (queued : List RouterOffer) : Type 0 where
     pub greater : x.snapshots.last < s
-    pub goes : Goes g u far Still n acting queued
+    pub goes : Goes g u far Still 0 n acting queued
     pub reads : ReadsRouter g u x acting
     pub queue : x.snapshots.queue ≡ x.snapshots.queue ++ queued
     pub recorded : Recorded n acting x.snapshots.last x.snapshots.last
     pub act : (whole : Bool) (queues : List RouterOffer) → model.AllUp (linked g.net u) acting.recorder.ends whole
         → offers.Records (network_of g) u acting.recorder s whole queues
-        → Goes g u far Still acting (begun_from acting ends s whole (awaits_marker first)) queues
+        → Goes g u far Still 0 acting (begun_from acting ends s whole (awaits_marker first)) queues
     pub alike : AreAlike g u x acting.recorder.ends
     pub stands : (v : ℕ) → linked g.net u v ≡ true → Stands (x.sides v) (ends v) (far v)
     pub appended : (v : ℕ) → linked g.net u v ≡ true → (ends v).appended ≡ (n.recorder.ends v).appended
@@ -117,12 +117,12 @@ module _ (laws : Laws) (g : Setting) (net : IsNetwork g.net) (u : ℕ) (far : �
           (λ v near. refl),
         )
 
-    acts : (d : Option ℕ) → first_down g u x ≡ d → Goes g u far Still acting (becomes d) (sup ++ lost_now s x d)
+    acts : (d : Option ℕ) → first_down g u x ≡ d → Goes g u far Still 0 acting (becomes d) (sup ++ lost_now s x d)
     acts d e =
         k.act (is_whole d) (sup ++ lost_now s x d) (all_up laws g net u x acting k.alike d e)
         (sup, lost_now s x d, sup_is laws g net u x acting k.alike x.snapshots k.reads.snapshots, begins_lost laws g net u x acting k.alike s d e, refl)
 
-    both : (d : Option ℕ) → first_down g u x ≡ d → Goes g u far Still n (becomes d) (queued ++ (sup ++ lost_now s x d))
+    both : (d : Option ℕ) → first_down g u x ≡ d → Goes g u far Still 0 n (becomes d) (queued ++ (sup ++ lost_now s x d))
     both d e = then_goes g u far Still n acting (becomes d) queued (sup ++ lost_now s x d) k.goes (acts d e) (λ i h. inl still)
 
     -- the sides, once their markers are sent
@@ -201,7 +201,7 @@ module _ (laws : Laws) (g : Setting) (net : IsNetwork g.net) (u : ℕ) (far : �
     queues a b c e h = ap (λ l. (l ++ c) ++ e) h ∙ (ap (λ l. l ++ e) (append_assoc a b c) ∙ append_assoc a (b ++ c) e)
 
     -- it records
-    pub begins : (d : Option ℕ) → first_down g u x ≡ d → LocalStep laws g net u far Still x (left_by d) (λ v. says_markers g u x s v) before items n
+    pub begins : (d : Option ℕ) → first_down g u x ≡ d → LocalStep laws g net u far Still 0 x (left_by d) (λ v. says_markers g u x s v) before items n
     begins None e =
         let z : Snapshots = superseding r (peers g.net u) x.snapshots in
         let p = parts_on laws g net u far Still (becomes None) r z refl refl (λ v near. refl) (part_is None) in
@@ -230,5 +230,5 @@ module _ (laws : Laws) (g : Setting) (net : IsNetwork g.net) (u : ℕ) (far : �
           unmarked = λ i v low is near up. (t v near).1 i (sym is) up;
         }
 
-    pub begins_step : LocalStep laws g net u far Still x (records g u x s first) (λ v. says_markers g u x s v) before items n
+    pub begins_step : LocalStep laws g net u far Still 0 x (records g u x s first) (λ v. says_markers g u x s v) before items n
     begins_step = begins (first_down g u x) refl

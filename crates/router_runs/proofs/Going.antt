@@ -1,5 +1,5 @@
 -- Events of one router, one after another.
-use Rattle.std.proofs.Common.{◌≡◌, ◌≢◌, ℕ, ◌==◌, Bool, true, false, ◌&&◌, ◌||◌, cond, List, [], ◌∷◌, ◌++◌, refl, ap, sym, ◌∙◌, arith, append_assoc, subst, Option, None, Some, inl, inr, ◌⊎◌}
+use Rattle.std.proofs.Common.{◌≡◌, ◌≢◌, ℕ, ◌+◌, ◌==◌, Bool, true, false, ◌&&◌, ◌||◌, cond, List, [], ◌∷◌, ◌++◌, refl, ap, sym, ◌∙◌, arith, append_assoc, subst, Option, None, Some, inl, inr, ◌⊎◌}
 use Rattle.std.proofs.lemmas.List.{append-nil}
 use Rattle.std.proofs.lemmas.Bool.Decides.{nat_tests}
 use Rattle.prefix_lanes.specs.Bits.{PrefixView}
@@ -15,7 +15,7 @@ use Rattle.run_model.specs.Facts.{MayInTurn}
 use Rattle.snap_marker.specs.Recordings.{RouterOffer}
 use Rattle.router_model.specs.Settings.{Setting}
 use Rattle.router_runs.specs.Model.{network_of}
-use Rattle.router_runs.specs.Mirrors.{ModelRouter, ModelEvent, Local, MayLocal, IsLocalRun, local_after, queued_by, IsLocallyQuiet, Goes}
+use Rattle.router_runs.specs.Mirrors.{ModelRouter, ModelEvent, Local, MayLocal, IsLocalRun, local_after, queued_by, is_command, commands_by, IsLocallyQuiet, Goes}
 use Rattle.router_runs.proofs.Acts.{IsQuiet, AllQuiet, plain}
 use Rattle.router_runs.proofs.Hanging.{loses, lost_number, none_and, and_all}
 use Rattle.router_runs.proofs.Using.{uses}
@@ -34,6 +34,10 @@ module _ (g : Setting) (u : ℕ) (far : ℕ → End Message) where
   queued_append [] fs = refl
   queued_append (e ∷ es) fs = ap (λ w. e.queues ++ w) (queued_append es fs) ∙ sym (append_assoc e.queues (queued_by es) (queued_by fs))
 
+  counted_append : (es fs : List Local) → commands_by (es ++ fs) ≡ commands_by es + commands_by fs
+  counted_append [] fs = omega arith
+  counted_append (e ∷ es) fs = (let rest = counted_append es fs in omega (arith, rest))
+
   quiet_append : (s : ℕ) (es fs : List Local) (n : ModelRouter) → IsLocallyQuiet g u s n es → IsLocallyQuiet g u s (local_after g u n es) fs → IsLocallyQuiet g u s n (es ++ fs)
   quiet_append s [] fs n p q = q
   quiet_append s (e ∷ es) fs n p q = (p.0, quiet_append s es fs (router_after (network_of g) u n e.event) p.1 q)
@@ -43,27 +47,29 @@ module _ (g : Setting) (u : ℕ) (far : ℕ → End Message) where
     abbrev pub IsStill : ModelRouter → ℕ → Type 0
     IsStill n s = Still ⊎ (n.recorder.copy s ≡ None)
 
-    pub no_goes : (n : ModelRouter) → Goes g u far Still n n []
-    no_goes n = record { events = []; run = tt; leads = refl; queues = refl; calm = λ s h. tt }
+    pub no_goes : (n : ModelRouter) → Goes g u far Still 0 n n []
+    no_goes n = record { events = []; run = tt; leads = refl; queues = refl; counts = refl; calm = λ s h. tt }
 
     pub one_goes : (n : ModelRouter) (e : ModelEvent) (offers : List RouterOffer) → MayLocal g u far n e → Queues (network_of g) u n e offers
         → ((s : ℕ) (c : ℕ → End Message) → IsStill n s → n.recorder.copy s ≡ Some c → IsQuietEvent n e)
-        → Goes g u far Still n (router_after (network_of g) u n e) offers
+        → Goes g u far Still (is_command e) n (router_after (network_of g) u n e) offers
     one_goes n e offers may queues quiet = record {
       events = record { event = e; queues = offers } ∷ [];
       run = (may, queues, tt);
       leads = refl;
       queues = append-nil offers;
+      counts = omega arith;
       calm = λ s h. ((λ c is. quiet s c h is), tt);
     }
 
-    pub then_goes : (n m k : ModelRouter) (xs ys : List RouterOffer) → Goes g u far Still n m xs → Goes g u far Still m k ys
-        → ((s : ℕ) → IsStill n s → IsStill m s) → Goes g u far Still n k (xs ++ ys)
+    pub then_goes : {i j : ℕ} (n m k : ModelRouter) (xs ys : List RouterOffer) → Goes g u far Still i n m xs → Goes g u far Still j m k ys
+        → ((s : ℕ) → IsStill n s → IsStill m s) → Goes g u far Still (i + j) n k (xs ++ ys)
     then_goes n m k xs ys p q on = record {
       events = p.events ++ q.events;
       run = run_append p.events q.events n p.run (subst (λ (i : ModelRouter). IsLocalRun g u far i q.events) (sym p.leads) q.run);
       leads = after_append p.events q.events n ∙ (ap (λ (i : ModelRouter). local_after g u i q.events) p.leads ∙ q.leads);
       queues = queued_append p.events q.events ∙ (ap (λ w. w ++ queued_by q.events) p.queues ∙ ap (λ w. xs ++ w) q.queues);
+      counts = (let all = counted_append p.events q.events in let mine = p.counts in let others = q.counts in omega (arith, all, mine, others));
       calm = λ s h. quiet_append s p.events q.events n (p.calm s h) (subst (λ (i : ModelRouter). IsLocallyQuiet g u s i q.events) (sym p.leads) (q.calm s (on s h)));
     }
 
@@ -130,7 +136,7 @@ module _ (laws : Laws) (g : Setting) (u v : ℕ) (apart : u ≢ v) (far : ℕ �
   left_false false q h = (refl, h)
 
   pub moves_go : (ms : List (Move Message)) (n : ModelRouter) → MayInTurn (n.recorder.ends v) (far v) ms → AllQuiet laws ms → (Still → loses (n.recorder.ends v) ms ≡ false)
-      → Goes g u far Still n (moved n ms) (lost_by_close (loses (n.recorder.ends v) ms) n.recorder.unfinished v (lost_number (n.recorder.ends v) ms))
+      → Goes g u far Still 0 n (moved n ms) (lost_by_close (loses (n.recorder.ends v) ms) n.recorder.unfinished v (lost_number (n.recorder.ends v) ms))
       × IsMoved n (moved n ms) v (afters (n.recorder.ends v) ms) (loses (n.recorder.ends v) ms) (uses (n.recorder.ends v) ms)
   moves_go [] n may q still = (
     no_goes g u far Still n,
@@ -163,7 +169,7 @@ module _ (laws : Laws) (g : Setting) (u v : ℕ) (apart : u ≢ v) (far : ℕ �
       let unf : k.recorder.unfinished ≡ cond (links.is_up a && hangs_up m) None n.recorder.unfinished = unfinished_is (links.is_up a) m n.recorder.unfinished in
       let both = then_goes g u far Still n k (moved k ms) (lost_by_close (links.is_up a && hangs_up m) n.recorder.unfinished v (incarnation a)) (lost_by_close (loses (k.recorder.ends v) ms) k.recorder.unfinished v (lost_number (k.recorder.ends v) ms))
       first rest.0 (λ s h. h) in (
-        subst (λ o. Goes g u far Still n (moved k ms) o)
+        subst (λ o. Goes g u far Still 0 n (moved k ms) o)
             (ap (λ (i : End Message). lost_by_close (links.is_up a && hangs_up m) n.recorder.unfinished v (incarnation a) ++ lost_by_close (loses i ms) k.recorder.unfinished v (lost_number i ms)) one
             ∙ (ap (λ o. lost_by_close (links.is_up a && hangs_up m) n.recorder.unfinished v (incarnation a) ++ lost_by_close (loses (links.after a m) ms) o v (lost_number (links.after a m) ms)) unf
             ∙ or_choice (links.is_up a && hangs_up m) (loses (links.after a m) ms) n.recorder.unfinished v (incarnation a) (lost_number (links.after a m) ms)))

@@ -41,5 +41,6 @@ mod MarkerSteps
 mod Lifting
 mod TableSteps
 pub mod NextEvent
+pub mod Lengthening
 mod Mirroring
 mod LocalSteps

@@ -1,5 +1,5 @@
 -- Events of one router, as events of the network in which the other routers stand still.
-use Rattle.std.proofs.Common.{◌≡◌, ℕ, ◌==◌, Bool, true, false, cond, List, [], ◌∷◌, ◌++◌, append_assoc, refl, ap, sym, subst, ◌∙◌, None}
+use Rattle.std.proofs.Common.{◌≡◌, ℕ, ◌==◌, Bool, true, false, cond, List, [], ◌∷◌, ◌++◌, append_assoc, refl, ap, sym, subst, ◌∙◌, arith, None}
 use mathlib.Core.Logic.{◌⊎◌}
 use Rattle.std.proofs.lemmas.List.{append-nil}
 use Rattle.std.proofs.lemmas.Bool.{eqb-true, eq-eqb}
@@ -14,7 +14,7 @@ use Rattle.run_model.specs.Offers.{Happens, Queues, IsOfferRun, offering_after, 
 use Rattle.snap_marker.specs.Recordings.{RouterOffer}
 use Rattle.router_model.specs.Settings.{Setting, linked}
 use Rattle.router_runs.specs.Model.{network_of}
-use Rattle.router_runs.specs.Mirrors.{ModelRouter, ModelEvent, ModelOffering, ModelSteps, Local, MayLocal, IsLocalRun, local_after, queued_by, IsLocallyQuiet, Goes}
+use Rattle.router_runs.specs.Mirrors.{ModelRouter, ModelEvent, ModelOffering, ModelSteps, Local, MayLocal, IsLocalRun, local_after, queued_by, is_command, commands_by, commands_at, Forgets, CommandsForget, IsLocallyQuiet, Goes}
 
 -- events of router u with what they queue
 abbrev pub steps_of : ℕ → List Local → ModelSteps
@@ -95,15 +95,40 @@ module _ (g : Setting) (u : ℕ) (w : ModelOffering) where
         (ap (λ b. cond b (router_after (network_of g) u (z u) l.event) (z u)) here_is ∙ ap (λ x. router_after (network_of g) u x l.event) is) calm.1,
   )
 
+  -- its commands are the router's own, and forget
+  counted : (y : ℕ) (b : Bool) → (y == u) ≡ b → (ls : List Local) → commands_at y (network_steps (network_of g) (steps_of u ls)) ≡ cond b (commands_by ls) 0
+  counted y true is [] = refl
+  counted y false is [] = refl
+  counted y true is (l ∷ ls) =
+      (let here = ap (λ (b : Bool). cond b (is_command l.event) 0) is in let rest = counted y true is ls in omega (arith, here, rest))
+  counted y false is (l ∷ ls) =
+      (let here = ap (λ (b : Bool). cond b (is_command l.event) 0) is in let rest = counted y false is ls in omega (arith, here, rest))
+
+  forgets_here : (n : ModelRouter) (e : ModelEvent) → MayLocal g u far n e → Forgets n e
+  forgets_here n (Acts act) may = tt
+  forgets_here n (Advertise v p m) may = tt
+  forgets_here n (Decide p) may = tt
+  forgets_here n (Command originated kept) may = may
+
+  forget_run : (ls : List Local) (n : ModelRouter) (z : ℕ → ModelRouter) → z u ≡ n → IsLocalRun g u far n ls → CommandsForget g z (network_steps (network_of g) (steps_of u ls))
+  forget_run [] n z is run = tt
+  forget_run (l ∷ ls) n z is run = (
+    subst (λ x. Forgets x l.event) (sym is) (forgets_here n l.event run.0),
+    forget_run ls (router_after (network_of g) u n l.event) (λ y. cond (y == u) (router_after (network_of g) y (z y) l.event) (z y))
+        (ap (λ b. cond b (router_after (network_of g) u (z u) l.event) (z u)) here_is ∙ ap (λ x. router_after (network_of g) u x l.event) is) run.2,
+  )
+
   -- what the router does is a run of the network, with offers
-  pub record Lifted (Still : Type 0) (m : ModelRouter) (offers : List RouterOffer) : Type 0 where
+  pub record Lifted (Still : Type 0) (commands : ℕ) (m : ModelRouter) (offers : List RouterOffer) : Type 0 where
     pub steps : ModelSteps
     pub run : IsOfferRun (network_of g) w steps
     pub leads : Lifts u w m offers (offerings_after (network_of g) w steps)
     pub calm : (s : ℕ) → (Still ⊎ ((w.routers u).recorder.copy s ≡ None)) → model.IsQuietSince (network_of g) s w.routers (network_steps (network_of g) steps)
+    pub counts : (y : ℕ) → commands_at y (network_steps (network_of g) steps) ≡ cond (y == u) commands 0
+    pub forgets : CommandsForget g w.routers (network_steps (network_of g) steps)
 
-  pub lift : (Still : Type 0) (m : ModelRouter) (offers : List RouterOffer) → Goes g u far Still (w.routers u) m offers → Lifted Still m offers
-  lift Still m offers goes =
+  pub lift : (Still : Type 0) (commands : ℕ) (m : ModelRouter) (offers : List RouterOffer) → Goes g u far Still commands (w.routers u) m offers → Lifted Still commands m offers
+  lift Still commands m offers goes =
       let start : Lifts u w (w.routers u) [] w = record { here = refl; others = λ y apart. refl; queued = sym (append-nil (w.queued u)); other_queues = λ y apart. refl; made = refl } in
       let done = lift_run goes.events (w.routers u) [] w start goes.run in
       record {
@@ -112,4 +137,6 @@ module _ (g : Setting) (u : ℕ) (w : ModelOffering) where
         leads = subst (λ (x : ModelRouter). Lifts u w x offers (offerings_after (network_of g) w (steps_of u goes.events))) goes.leads
             (subst (λ o. Lifts u w (local_after g u (w.routers u) goes.events) o (offerings_after (network_of g) w (steps_of u goes.events))) goes.queues done.1);
         calm = λ s still. quiet_run s goes.events (w.routers u) w.routers refl (goes.calm s still);
+        counts = λ y. counted y (y == u) refl goes.events ∙ ap (λ k. cond (y == u) k 0) goes.counts;
+        forgets = forget_run goes.events (w.routers u) w.routers refl goes.run;
       }

@@ -20,7 +20,7 @@ use Rattle.router_model.specs.Laws.{all_passes}
 use Rattle.router_model.specs.Step.{RouterEvent, Obeys, Ticks, Handles, Decides, Advertises, May, after, says, overflows, heeds, is_greater, records}
 use Rattle.router_runs.specs.Runs.{written_in}
 use Rattle.router_runs.specs.Snapshots.{IsQuiet}
-use Rattle.router_runs.specs.Mirrors.{ModelRouter, ReadsRouter}
+use Rattle.router_runs.specs.Mirrors.{ModelRouter, is_table_command, ReadsRouter}
 use Rattle.router_runs.proofs.Stepping.{Before}
 use Rattle.router_runs.proofs.Locally.{LocalStep}
 use Rattle.router_runs.proofs.SessionSteps.{session_step}
@@ -52,7 +52,7 @@ module _ (laws : Laws) (g : Setting) (net : IsNetwork g.net) (u : ℕ) (far : �
   Fronts e = (w : ℕ) → e ≡ alone (Handles w) → (m : Message) × (front (rule_of g.net u w) (x.sides w).held ≡ Ok m)
 
   abbrev StepOf : RouterEvent → Type 0
-  StepOf e = LocalStep laws g net u far (Still e) x (after g u x e) (says g u x e) before (λ v. all_passes (taken_from v e)) n
+  StepOf e = LocalStep laws g net u far (Still e) (is_table_command e) x (after g u x e) (says g u x e) before (λ v. all_passes (taken_from v e)) n
 
   -- a recording is quiet
   recorded_up : (p q : Bool) (s w v : ℕ) → is_up ((cond p (cond q (records g u x s (Some w)) (record x { snapshots = ends_channel (peers g.net u) w s x.snapshots.unfinished x.snapshots })) x).sides v) ≡ is_up (x.sides v)

@@ -76,11 +76,11 @@ pub peer_linked : (g : Setting) (u v : ℕ) → list_any (nat_eq v) (peers g.net
 peer_linked g u v m = passes (linked g.net u) v (numbers g.net.routers) m
 
 module _ (laws : Laws) (g : Setting) (net : IsNetwork g.net) (u : ℕ) (far : ℕ → End Message) (Still : Type 0) where
-  -- a step of router u from x to y, of which n is the router of the laws
-  pub record LocalStep (x y : Router) (new : ℕ → List (Entry Message)) (before items : ℕ → List (Passing Message)) (n : ModelRouter) : Type 0 where
+  -- a step of router u from x to y, of which n is the router of the laws; so many of its events are commands
+  pub record LocalStep (commands : ℕ) (x y : Router) (new : ℕ → List (Entry Message)) (before items : ℕ → List (Passing Message)) (n : ModelRouter) : Type 0 where
     pub m : ModelRouter
     pub offers : List RouterOffer
-    pub goes : Goes g u far Still n m offers
+    pub goes : Goes g u far Still commands n m offers
     pub turned : (v : ℕ) → linked g.net u v ≡ true → IsTurned laws g u far Still v (y.sides v) (new v) (before v ++ items v) (n.recorder.ends v) (m.recorder.ends v)
     pub reads : ReadsRouter g u y m
     pub queue : y.snapshots.queue ≡ x.snapshots.queue ++ offers
@@ -107,7 +107,7 @@ module _ (laws : Laws) (g : Setting) (net : IsNetwork g.net) (u : ℕ) (far : �
     -- all its sessions turn, and UPDATEs are heard
     pub sessions_step : ((v : ℕ) → linked g.net u v ≡ true → MayTurn laws g u far Still v (x.sides v) (y.sides v) (new v) (before v) (items v) (us v) (n.recorder.ends v))
         → y.kept ≡ x.kept → y.originated ≡ x.originated → (c : Option (ℕ × ℕ)) → first_left (peers g.net u) (left_at laws g u far Still x y new before items us n.recorder.ends) ≡ c
-        → HearsUpdates us (closed c x.snapshots) y.snapshots → ReadsRouter g u x n → LocalStep x y new before items n
+        → HearsUpdates us (closed c x.snapshots) y.snapshots → ReadsRouter g u x n → LocalStep 0 x y new before items n
     sessions_step may kept originated c is hears reads =
         let t = all_turn laws g u far Still x y new before items us n.recorder.ends (peers g.net u) (apart_of (peers g.net u) rising) n (λ v m. refl) (λ v m. may v (peer_linked g u v m)) in
         let s = snapshots_turn laws g u far Still x y new before items us n.recorder.ends n t c x.snapshots y.snapshots peer_of is hears reads.snapshots in

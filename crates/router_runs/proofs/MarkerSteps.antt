@@ -92,7 +92,7 @@ module _ (laws : Laws) (g : Setting) (net : IsNetwork g.net) (u : ℕ) (far : �
         unmarked = λ v near up. inr (λ h. fresh s v low near up h);
       }
 
-  pub snapshot_step : (s : ℕ) → is_greater x s ≡ true → LocalStep laws g net u far Still x (records g u x s None) (λ v. says_markers g u x s v) before (λ v. []) n
+  pub snapshot_step : (s : ℕ) → is_greater x s ≡ true → LocalStep laws g net u far Still 0 x (records g u x s None) (λ v. says_markers g u x s v) before (λ v. []) n
   snapshot_step s greater = begins_step laws g net u far Still still x before (λ v. []) n None s n n.recorder.ends [] (snapshot_begins s greater)
 
   -- ---- a marker is taken from w
@@ -133,8 +133,8 @@ module _ (laws : Laws) (g : Setting) (net : IsNetwork g.net) (u : ℕ) (far : �
     none_lost true o v d h = absurd (cc h)
     none_lost false o v d h = refl
 
-    cleared_goes : Goes g u far Still n cleared []
-    cleared_goes = subst (λ o. Goes g u far Still n cleared o) (none_lost (is_up (x.sides w) && not (is_up (x.sides w))) n.recorder.unfinished w (x.sides w).link.epoch (and_not (is_up (x.sides w)))) turns.goes
+    cleared_goes : Goes g u far Still 0 n cleared []
+    cleared_goes = subst (λ o. Goes g u far Still 0 n cleared o) (none_lost (is_up (x.sides w) && not (is_up (x.sides w))) n.recorder.unfinished w (x.sides w).link.epoch (and_not (is_up (x.sides w)))) turns.goes
 
     same_updates : (c b : Bool) (old used : List Message) → filter is_update used ≡ [] → filter is_update (cond c (cond b (old ++ used) old) old) ≡ filter is_update old
     same_updates true true old used h = filter_append old used ∙ (ap (λ l. filter is_update old ++ l) h ∙ append-nil (filter is_update old))
@@ -287,8 +287,8 @@ module _ (laws : Laws) (g : Setting) (net : IsNetwork g.net) (u : ℕ) (far : �
         (record { stands = t.stands; appended = t.appended ∙ sym (append-nil (n.recorder.ends v).appended); holds = t.holds })
 
     -- the step, from what the act leaves
-    by_act : (k m : ModelRouter) (first later : List RouterOffer) (z : Snapshots) → Goes g u far Still cleared k first → Goes g u far Still k m later → LeavesEnds m → ReadsSnapshots g u z m → z.queue ≡ x.snapshots.queue ++ (first ++ later) → z.last ≡ x.snapshots.last
-        → LocalStep laws g net u far Still x (record x { snapshots = z }) nothing_said before items n
+    by_act : (k m : ModelRouter) (first later : List RouterOffer) (z : Snapshots) → Goes g u far Still 0 cleared k first → Goes g u far Still 0 k m later → LeavesEnds m → ReadsSnapshots g u z m → z.queue ≡ x.snapshots.queue ++ (first ++ later) → z.last ≡ x.snapshots.last
+        → LocalStep laws g net u far Still 0 x (record x { snapshots = z }) nothing_said before items n
     by_act k m first later z go on t r queue last = record {
       m = m;
       offers = first ++ later;
@@ -305,7 +305,7 @@ module _ (laws : Laws) (g : Setting) (net : IsNetwork g.net) (u : ℕ) (far : �
         (links.is_up (cleared.recorder.ends w) ≡ false)
         ⊎ ((e ≢ incarnation (cleared.recorder.ends w)) ⊎ ((s ≤ cleared.recorder.last) × ((cleared.recorder.unfinished ≢ Some s) ⊎ (cleared.recorder.waits w ≡ false))))
 
-    ignores : MayIgnore → LocalStep laws g net u far Still x x nothing_said before items n
+    ignores : MayIgnore → LocalStep laws g net u far Still 0 x x nothing_said before items n
     ignores why =
         let k : ModelRouter = router_after (network_of g) u cleared (Acts (IgnoresMarker w e s)) in
         by_act k k [] [] x.snapshots (one_goes g u far Still cleared (Acts (IgnoresMarker w e s)) [] (((laws.links g.net net u w near_w).apart, is_next, why), tt) refl (λ i c h is. refl)) (no_goes g u far Still k)
@@ -314,7 +314,7 @@ module _ (laws : Laws) (g : Setting) (net : IsNetwork g.net) (u : ℕ) (far : �
         (sym (append-nil x.snapshots.queue)) refl
 
     ends_one : (r : Recording) → x.snapshots.unfinished ≡ Some r → r.number ≡ s → r.waits w ≡ true → is_up (x.sides w) ≡ true → e ≡ incarnation (cleared.recorder.ends w)
-        → LocalStep laws g net u far Still x (record x { snapshots = goes_on (peers g.net u) (record r { waits = λ y. cond (y == w) false (r.waits y) }) x.snapshots }) nothing_said before items n
+        → LocalStep laws g net u far Still 0 x (record x { snapshots = goes_on (peers g.net u) (record r { waits = λ y. cond (y == w) false (r.waits y) }) x.snapshots }) nothing_said before items n
     ends_one r is number waits up own =
         let k : ModelRouter = router_after (network_of g) u cleared (Acts (EndsChannel w e s)) in
         let q : Recording = record r { waits = λ y. cond (y == w) false (r.waits y) } in
@@ -342,7 +342,7 @@ module _ (laws : Laws) (g : Setting) (net : IsNetwork g.net) (u : ℕ) (far : �
     not_greater h = (let last = cleared_reads.snapshots.last in let low : s ≤ x.snapshots.last = grind (arith, nat_tests, h) in omega (arith, last, low))
 
     ends_if : is_greater x s ≡ false → is_up (x.sides w) ≡ true → e ≡ incarnation (cleared.recorder.ends w) → (o : Option Recording) → x.snapshots.unfinished ≡ o
-        → LocalStep laws g net u far Still x (record x { snapshots = ends_channel (peers g.net u) w s o x.snapshots }) nothing_said before items n
+        → LocalStep laws g net u far Still 0 x (record x { snapshots = ends_channel (peers g.net u) w s o x.snapshots }) nothing_said before items n
     ends_if low up own None is =
         ignores (inr (inr (not_greater low, inl (λ h. (let none : cleared.recorder.unfinished ≡ None = cleared_reads.snapshots.unfinished ∙ ap number_of is in let k : None ≡ Some s = sym none ∙ h in cc k)))))
     ends_if low up own (Some r) is = at ((r.number == s) && r.waits w) refl
@@ -358,7 +358,7 @@ module _ (laws : Laws) (g : Setting) (net : IsNetwork g.net) (u : ℕ) (far : �
         other false same h = inl (λ k. (let number : r.number ≡ s = number_some r.number s (sym unf ∙ k) in let hit : (r.number == s) ≡ true = grind (arith, nat_tests, number) in cc (hit, same)))
 
         at : (b : Bool) → ((r.number == s) && r.waits w) ≡ b
-            → LocalStep laws g net u far Still x (record x { snapshots = cond b (goes_on (peers g.net u) (record r { waits = λ y. cond (y == w) false (r.waits y) }) x.snapshots) x.snapshots }) nothing_said before items n
+            → LocalStep laws g net u far Still 0 x (record x { snapshots = cond b (goes_on (peers g.net u) (record r { waits = λ y. cond (y == w) false (r.waits y) }) x.snapshots) x.snapshots }) nothing_said before items n
         at true h = (let p = both (r.number == s) (r.waits w) h in let number : r.number ≡ s = (let q = p.0 in grind (arith, nat_tests, q)) in ends_one r is number p.1 up own)
         at false h = ignores (inr (inr (not_greater low, other (r.number == s) refl h)))
 
@@ -378,7 +378,7 @@ module _ (laws : Laws) (g : Setting) (net : IsNetwork g.net) (u : ℕ) (far : �
         inr (inl (λ same. (let hit : (e == (x.sides w).link.epoch) ≡ true = (let q : e ≡ (x.sides w).link.epoch = same ∙ sym epoch in grind (arith, nat_tests, q)) in cc (hit, miss))))
 
     by_tests : (h gr : Bool) → heeds g u x w e ≡ h → is_greater x s ≡ gr
-        → LocalStep laws g net u far Still x (cond h (cond gr (records g u x s (Some w)) (record x { snapshots = ends_channel (peers g.net u) w s x.snapshots.unfinished x.snapshots })) x)
+        → LocalStep laws g net u far Still 0 x (cond h (cond gr (records g u x s (Some w)) (record x { snapshots = ends_channel (peers g.net u) w s x.snapshots.unfinished x.snapshots })) x)
         (λ v. says_where (h && gr) (says_markers g u x s v)) before items n
     by_tests true gr heeded greater =
         let p = both (is_up (x.sides w)) (uses (x.sides w).link e) heeded in
@@ -388,11 +388,11 @@ module _ (laws : Laws) (g : Setting) (net : IsNetwork g.net) (u : ℕ) (far : �
         heeded_by gr greater p.0 (same ∙ epoch)
       where
         heeded_by : (gr : Bool) → is_greater x s ≡ gr → is_up (x.sides w) ≡ true → e ≡ incarnation (cleared.recorder.ends w)
-            → LocalStep laws g net u far Still x (cond gr (records g u x s (Some w)) (record x { snapshots = ends_channel (peers g.net u) w s x.snapshots.unfinished x.snapshots })) (λ v. says_where gr (says_markers g u x s v)) before items n
+            → LocalStep laws g net u far Still 0 x (cond gr (records g u x s (Some w)) (record x { snapshots = ends_channel (peers g.net u) w s x.snapshots.unfinished x.snapshots })) (λ v. says_where gr (says_markers g u x s v)) before items n
         heeded_by true greater up own = begins_step laws g net u far Still still x before items n (Some w) s cleared ends_behind [] (follows greater up own)
         heeded_by false greater up own = ends_if greater up own x.snapshots.unfinished refl
     by_tests false gr heeded greater = ignores (unheeded (is_up (x.sides w)) refl heeded)
 
-    pub mark_step : LocalStep laws g net u far Still x (cond (heeds g u x w e) (cond (is_greater x s) (records g u x s (Some w)) (record x { snapshots = ends_channel (peers g.net u) w s x.snapshots.unfinished x.snapshots })) x)
+    pub mark_step : LocalStep laws g net u far Still 0 x (cond (heeds g u x w e) (cond (is_greater x s) (records g u x s (Some w)) (record x { snapshots = ends_channel (peers g.net u) w s x.snapshots.unfinished x.snapshots })) x)
         (λ v. says_where (heeds g u x w e && is_greater x s) (says_markers g u x s v)) before items n
     mark_step = by_tests (heeds g u x w e) (is_greater x s) refl refl

@@ -1,10 +1,9 @@
 -- The run of the laws beside a run of routers, event by event.
-use Rattle.std.proofs.Common.{◌≡◌, ℕ, ◌<◌, ◌==◌, Bool, true, false, List, [], ◌∷◌, ◌++◌, append_assoc, refl, ap, sym, ◌∙◌, subst, Option, None, Some, inl, inr, ◌⊎◌}
+use Rattle.std.proofs.Common.{◌≡◌, ℕ, ◌<◌, ◌==◌, arith, Bool, true, false, List, [], ◌∷◌, ◌++◌, append_assoc, refl, ap, sym, ◌∙◌, subst, Option, None, Some, inl, inr, ◌⊎◌}
 use Rattle.std.specs.Prelude.{if◌then◌else◌}
 use mathlib.Core.List.{IsPrefix}
 use Rattle.std.proofs.lemmas.List.{append-nil}
 use Rattle.std.proofs.lemmas.Bool.{eq-eqb}
-use Rattle.prefix_lanes.specs.Bits.{PrefixView}
 use Rattle.bgp_codec.specs.declared.message.Message.{Message}
 use Rattle.run_model.specs.Links as links
 use Rattle.run_model.specs.Links.{Entry, End}
@@ -13,8 +12,7 @@ use Rattle.run_model.specs.Network as runs
 use Rattle.run_model.specs.Network.{NetworkEvent, alone, puts, takes, offers, taken_from, put_towards, offered_by}
 use Rattle.run_model.specs.Routes as routes
 use Rattle.run_model.specs.Quiet as model
-use Rattle.run_model.specs.Offers as law
-use Rattle.run_model.specs.Offers.{Makes, IsIn, IsOfferRun, IsOfferRunOf, offerings_after, final, network_steps, made_by, made_of}
+use Rattle.run_model.specs.Offers.{IsIn, offerings_after, final, network_steps, made_by}
 use Rattle.outbox.specs.declared.item.What.{What}
 use Rattle.snap_marker.specs.Recordings.{MadeOffer}
 use Rattle.router_model.specs.Settings.{Setting, IsSetting, linked}
@@ -29,25 +27,15 @@ use Rattle.router_runs.specs.Doing.{Stands}
 use Rattle.router_runs.specs.Kept.{Holds}
 use Rattle.router_runs.specs.Snapshots.{RecordedAt, IsQuiet, IsQuietSince, snapshots_of}
 use Rattle.router_runs.specs.SnapshotLaws.{SnapshotLaws}
-use Rattle.router_runs.specs.Mirrors.{ModelRouter, ModelOffering, ModelSteps, ReadsRouter, Mirrors, Copied, Mirrored, GoesOn, RunsAreMirrored, MirrorsGoOn, RecordingsAreMirrored}
+use Rattle.router_runs.specs.Mirrors.{ModelRouter, ModelOffering, ModelSteps, commands_at, table_commands_at, CommandsForget, ReadsRouter, Mirrors, Copied, Mirrored, GoesOn, RunsAreMirrored, MirrorsGoOn, RecordingsAreMirrored}
 use Rattle.router_runs.proofs.Doing.{up_in}
 use Rattle.router_runs.proofs.Hanging.{up_is}
 use Rattle.router_runs.proofs.Running.{all_more, number_is}
 use Rattle.router_runs.proofs.Keeping.{linked_both, linked_apart}
 use Rattle.router_runs.proofs.Believing.{runs_join}
 use Rattle.router_runs.proofs.NextEvent.{Next, next_of, holds_as, stands_as, apart_of}
+use Rattle.router_runs.proofs.Lengthening.{steps_append, quiet_on, commands_append, table_commands_append, forget_on}
 use Rattle.router_runs.proofs.Lower.{Laws, first_facts}
-
-steps_append : (g : Setting) (ts us : ModelSteps) → network_steps (network_of g) (ts ++ us) ≡ network_steps (network_of g) ts ++ network_steps (network_of g) us
-steps_append g [] us = refl
-steps_append g (t ∷ ts) us =
-    ap (λ l. law.network_step (network_of g) t.router t.event ++ l) (steps_append g ts us)
-    ∙ sym (append_assoc (law.network_step (network_of g) t.router t.event) (network_steps (network_of g) ts) (network_steps (network_of g) us))
-
-quiet_on : (g : Setting) (s : ℕ) (ts us : List (routes.NetworkStep Message PrefixView (List ℕ))) (w : ℕ → ModelRouter) → model.IsQuietSince (network_of g) s w ts
-    → model.IsQuietSince (network_of g) s (routes.routers_after (network_of g) w ts) us → model.IsQuietSince (network_of g) s w (ts ++ us)
-quiet_on g s [] us w one two = two
-quiet_on g s (t ∷ ts) us w one two = (one.0, quiet_on g s ts us (routes.advanced (network_of g) w t) one.1 two)
 
 module _ (laws : Laws) (more : SnapshotLaws) where
   module _ (g : Setting) (set : IsSetting g) (order : RunOrder) (old : RunState) (m : Mirrored g order old) (r : IsRunTo g order old) (u : ℕ) where
@@ -290,6 +278,22 @@ module _ (laws : Laws) (more : SnapshotLaws) where
           (quiet_on g s (network_steps (network_of g) m.steps) (network_steps (network_of g) k.steps) (routes.first_routers (network_of g)) one
           (subst (λ i. model.IsQuietSince (network_of g) s i (network_steps (network_of g) k.steps)) (sym (more.aside (network_of g) m.steps m.run).1) two))
 
+      -- ---- its commands
+
+      commands_next : (a : ℕ) → commands_at a (network_steps (network_of g) (m.steps ++ k.steps)) ≡ table_commands_at a order_next
+      commands_next a =
+          let both = commands_append a (network_steps (network_of g) m.steps) (network_steps (network_of g) k.steps) in
+          let all = table_commands_append a order (event e ∷ []) in
+          let first = m.commands a in
+          let last = k.counts a in
+          ap (commands_at a) (steps_append g m.steps k.steps) ∙ omega (arith, both, all, first, last)
+
+      forget_next : CommandsForget g (routes.first_routers (network_of g)) (network_steps (network_of g) (m.steps ++ k.steps))
+      forget_next =
+          subst (CommandsForget g (routes.first_routers (network_of g))) (sym (steps_append g m.steps k.steps))
+          (forget_on g (network_steps (network_of g) m.steps) (network_steps (network_of g) k.steps) (routes.first_routers (network_of g)) m.forgets
+          (subst (λ i. CommandsForget g i (network_steps (network_of g) k.steps)) (sym (more.aside (network_of g) m.steps m.run).1) k.forgets))
+
       -- ---- the longer run
 
       final_is : final (network_of g) (m.steps ++ k.steps) ≡ z
@@ -302,6 +306,8 @@ module _ (laws : Laws) (more : SnapshotLaws) where
         mirrors = subst (Mirrors g (new e own)) (sym final_is) mirrors_next;
         copies = λ a s c is. subst (λ o. (o.routers a).recorder.copy s ≡ Some c → Copied g order_next (new e own) (o.routers a) a s c) (sym final_is) (copied_at a s c (u == a) refl) is;
         quiet = quiet_next;
+        commands = commands_next;
+        forgets = forget_next;
       }
 
       abbrev goes_next : GoesOn g order old m (event e ∷ []) (new e own)
@@ -353,6 +359,8 @@ module _ (laws : Laws) (more : SnapshotLaws) where
       };
       copies = λ u s c is. absurd (cc is);
       quiet = λ s q. tt;
+      commands = λ u. refl;
+      forgets = tt;
     }
 
     -- a longer run, whatever its order is written as

@@ -28,7 +28,7 @@ use Rattle.router_runs.specs.Kept.{Holds, IsGood}
 use Rattle.router_runs.specs.Said.{Kept}
 use Rattle.router_runs.specs.Snapshots.{IsQuiet}
 use Rattle.router_runs.specs.SnapshotLaws.{SnapshotLaws}
-use Rattle.router_runs.specs.Mirrors.{ModelRouter, ModelOffering, ModelSteps, ReadsRouter, Recorded, Mirrored}
+use Rattle.router_runs.specs.Mirrors.{ModelRouter, ModelOffering, ModelSteps, is_table_command, commands_at, CommandsForget, ReadsRouter, Recorded, Mirrored}
 use Rattle.router_runs.proofs.Stepping.{Before}
 use Rattle.router_runs.proofs.Entries.{prefix_trans}
 use Rattle.router_runs.proofs.Running.{all_more, all_front, number_is, own_number}
@@ -158,6 +158,8 @@ module _ (laws : Laws) (more : SnapshotLaws) where
       pub other_queues : (a : ℕ) → (u ≡ a → ⊥) → (offerings_after (network_of g) w steps).queued a ≡ made_by a (offerings_after (network_of g) w steps).made ++ (old.routers a).router.snapshots.queue
       pub made : (offerings_after (network_of g) w steps).made ≡ (new e own).offered
       pub calm : (s : ℕ) → IsQuiet g u x (after g u x e) e ⊎ (n.recorder.copy s ≡ None) → model.IsQuietSince (network_of g) s w.routers (network_steps (network_of g) steps)
+      pub counts : (a : ℕ) → commands_at a (network_steps (network_of g) steps) ≡ cond (a == u) (is_table_command e) 0
+      pub forgets : CommandsForget g w.routers (network_steps (network_of g) steps)
       pub turned : (v : ℕ) → linked g.net u v ≡ true
           → IsTurned laws g u far (IsQuiet g u x (after g u x e) e) v ((after g u x e).sides v) (says g u x e v) (before v ++ all_passes (taken_from v e)) (n.recorder.ends v) (router.recorder.ends v)
       pub reads : ReadsRouter g u (after g u x e) router
@@ -169,7 +171,7 @@ module _ (laws : Laws) (more : SnapshotLaws) where
     usual e is own step begins =
         let y : Router = after g u x e in
         let l = local_step laws g set.network u far x before n known (m.mirrors.routers u) obeyed e is step.step.may step.step.numbers (reads_front laws g set old kept (event e) own step) (comes e own begins) in
-        let up = lift g u w (IsQuiet g u x y e) l.m l.offers l.goes in
+        let up = lift g u w (IsQuiet g u x y e) (is_table_command e) l.m l.offers l.goes in
         let z : ModelOffering = offerings_after (network_of g) w up.steps in
         record {
           steps = up.steps;
@@ -186,6 +188,8 @@ module _ (laws : Laws) (more : SnapshotLaws) where
           other_queues = λ a apart. up.leads.other_queues a apart ∙ m.mirrors.queued a ∙ ap (λ ms. made_by a ms ++ (old.routers a).router.snapshots.queue) (sym up.leads.made);
           made = up.leads.made ∙ m.mirrors.made ∙ sym (append-nil old.offered) ∙ ap (λ k. old.offered ++ k) (sym (none_offered e is));
           calm = up.calm;
+          counts = up.counts;
+          forgets = up.forgets;
           turned = l.turned;
           reads = l.reads;
           recorded = l.recorded;
@@ -216,6 +220,8 @@ module _ (laws : Laws) (more : SnapshotLaws) where
               ∙ ap (λ k. k ++ (old.routers a).router.snapshots.queue) (sym (append-nil (made_by a w.made)) ∙ ap (λ c. made_by a w.made ++ cond c (made.offer ∷ []) []) (sym (miss a apart)) ∙ sym (made_one a w.made (made_of u made.offer)));
           made = ap (λ k. w.made ++ k ∷ []) same ∙ ap (λ k. k ++ made ∷ []) m.mirrors.made;
           calm = λ s still. tt;
+          counts = λ a. sym (none_counted (a == u));
+          forgets = tt;
           turned = λ v near. record {
             stands = (known v near).stands;
             appended = sym (append-nil (n.recorder.ends v).appended);
@@ -230,6 +236,10 @@ module _ (laws : Laws) (more : SnapshotLaws) where
           unmarked = λ k v low at near up. absurd (omega (arith, low, at));
         }
       where
+        none_counted : (b : Bool) → cond b (is_table_command (offers made)) 0 ≡ 0
+        none_counted true = refl
+        none_counted false = refl
+
         miss : (a : ℕ) → (u ≡ a → ⊥) → (a == u) ≡ false
         miss a apart = at (a == u) refl
           where

@@ -32,7 +32,7 @@ module _ (laws : Laws) (g : Setting) (net : IsNetwork g.net) (u : ℕ) (far : �
     pub m : ModelRouter
     pub offers : List RouterOffer
     pub old : Snapshots
-    pub goes : Goes g u far Still k m offers
+    pub goes : Goes g u far Still 0 k m offers
     pub ends : m.recorder.ends ≡ k.recorder.ends
     pub copy : m.recorder.copy ≡ k.recorder.copy
     pub kept : m.kept ≡ k.kept

@@ -29,7 +29,7 @@ use Rattle.router_model.specs.Step.{RouterEvent, Obeys, Ticks, Handles, Decides,
 use Rattle.router_runs.specs.Runs.{written_in}
 use Rattle.router_runs.specs.Model.{network_of}
 use Rattle.router_runs.specs.Snapshots.{IsCommand}
-use Rattle.router_runs.specs.Mirrors.{ModelRouter, ModelEvent, ReadsRouter}
+use Rattle.router_runs.specs.Mirrors.{ModelRouter, ModelEvent, is_table_command, ReadsRouter}
 use Rattle.router_runs.proofs.Stepping.{Before, same_number}
 use Rattle.router_runs.proofs.Events.{step_side}
 use Rattle.router_runs.proofs.Resetting.{reset_down}
@@ -175,13 +175,13 @@ module _ (laws : Laws) (g : Setting) (net : IsNetwork g.net) (u : ℕ) (far : �
   Turning y new items us = (v : ℕ) → linked g.net u v ≡ true → MayTurn laws g u far Still v (x.sides v) (y.sides v) (new v) (before v) (items v) (us v) (n.recorder.ends v)
 
   moved_step : (w : ℕ) → linked g.net u w ≡ true → (d : Draft) → d.left ≡ left_of (is_up (x.sides w)) (is_established d.session.state) (x.sides w).link.epoch → (new : ℕ → List (Entry Message)) (items : ℕ → List (Passing Message))
-      → Turning (moved x w NoMessage d) new items (λ v. []) → LocalStep laws g net u far Still x (moved x w NoMessage d) new before items n
+      → Turning (moved x w NoMessage d) new items (λ v. []) → LocalStep laws g net u far Still 0 x (moved x w NoMessage d) new before items n
   moved_step w near d left new items may =
       sessions_step laws g net u far Still x (moved x w NoMessage d) new before items (λ v. []) n may refl refl (close_at w d.left)
       (one_left w near (is_established d.session.state) d.left (moved x w NoMessage d) left (λ v. up_one (v == w) NoMessage (x.sides v) d)) (seen_none d.acts w (closed (close_at w d.left) x.snapshots)) reads
 
   all_step : (drafts : ℕ → Draft) → ((v : ℕ) → (drafts v).left ≡ left_of (is_up (x.sides v)) (is_established (drafts v).session.state) (x.sides v).link.epoch) → (new : ℕ → List (Entry Message)) (items : ℕ → List (Passing Message))
-      → Turning (all_moved g u x drafts) new items (λ v. []) → LocalStep laws g net u far Still x (all_moved g u x drafts) new before items n
+      → Turning (all_moved g u x drafts) new items (λ v. []) → LocalStep laws g net u far Still 0 x (all_moved g u x drafts) new before items n
   all_step drafts left new items may =
       sessions_step laws g net u far Still x (all_moved g u x drafts) new before items (λ v. []) n may refl refl (first_close (peers g.net u) drafts)
       (first_same (peers g.net u) drafts (λ v. left_of (is_up (x.sides v)) (is_up ((all_moved g u x drafts).sides v)) (x.sides v).link.epoch)
@@ -190,7 +190,7 @@ module _ (laws : Laws) (g : Setting) (net : IsNetwork g.net) (u : ℕ) (far : �
 
   -- one side changes, and no session
   side_step : (w : ℕ) → linked g.net u w ≡ true → (change : Side → Side) → ((s : Side) → is_up (change s) ≡ is_up s) → (new : ℕ → List (Entry Message)) (items : ℕ → List (Passing Message))
-      → Turning (with_side x w change) new items (λ v. []) → LocalStep laws g net u far Still x (with_side x w change) new before items n
+      → Turning (with_side x w change) new items (λ v. []) → LocalStep laws g net u far Still 0 x (with_side x w change) new before items n
   side_step w near change same new items may =
       sessions_step laws g net u far Still x (with_side x w change) new before items (λ v. []) n may refl refl None
       (one_left w near (is_up (x.sides w)) None (with_side x w change) (sym (none_left (is_up (x.sides w)) (x.sides w).link.epoch)) (λ v. up_at v (v == w) refl)) (quiet_heard x.snapshots) reads
@@ -246,7 +246,7 @@ module _ (laws : Laws) (g : Setting) (net : IsNetwork g.net) (u : ℕ) (far : �
   Fronts e = (w : ℕ) → e ≡ alone (Handles w) → (m : Message) × (front (rule_of g.net u w) (x.sides w).held ≡ Ok m)
 
   abbrev StepOf : RouterEvent → Type 0
-  StepOf e = LocalStep laws g net u far Still x (after g u x e) (says g u x e) before (λ v. all_passes (taken_from v e)) n
+  StepOf e = LocalStep laws g net u far Still (is_table_command e) x (after g u x e) (says g u x e) before (λ v. all_passes (taken_from v e)) n
 
   handles_step : (w : ℕ) → (may : May g u x (alone (Handles w))) → Fronts (alone (Handles w)) → Comes (alone (Handles w)) → Stays (alone (Handles w)) → StepOf (alone (Handles w))
   handles_step w may fronts comes still =
@@ -266,7 +266,7 @@ module _ (laws : Laws) (g : Setting) (net : IsNetwork g.net) (u : ℕ) (far : �
       (laws.left (open_of g.net u) (x.sides w)).reset_is ∙ ap (λ b. left_of (is_up (x.sides w)) b (x.sides w).link.epoch) (sym down)
 
   abbrev Stopped : Type 0
-  Stopped = LocalStep laws g net u far Still x (all_moved g u x (λ v. meets_at g u x v ManualStop)) (says g u x (alone (Obeys command.Restart))) before (λ v. []) n
+  Stopped = LocalStep laws g net u far Still 0 x (all_moved g u x (λ v. meets_at g u x v ManualStop)) (says g u x (alone (Obeys command.Restart))) before (λ v. []) n
 
   restart_step : Comes (alone (Obeys command.Restart)) → Stays (alone (Obeys command.Restart)) → (Still → ⊥) → StepOf (alone (Obeys command.Restart))
   restart_step comes still loud =
@@ -280,7 +280,7 @@ module _ (laws : Laws) (g : Setting) (net : IsNetwork g.net) (u : ℕ) (far : �
       record {
         m = k;
         offers = t.offers ++ [];
-        goes = then_goes g u far Still n m k t.offers [] t.goes (one_goes g u far Still m forget [] tt refl (λ s c h is. elim h [ inl still' ↦ absurd (loud still') | inr free ↦ absurd (let z = sym free ∙ is in cc z) ]))
+        goes = then_goes g u far Still n m k t.offers [] t.goes (one_goes g u far Still m forget [] (inr refl) refl (λ s c h is. elim h [ inl still' ↦ absurd (loud still') | inr free ↦ absurd (let z = sym free ∙ is in cc z) ]))
             (λ s h. elim h [ inl still' ↦ absurd (loud still') | inr free ↦ inr (free_on t s free) ]);
         turned = t.turned;
         reads = record { kept = refl; originated = refl; snapshots = snapshots_like g u (after g u x e).snapshots m k refl refl refl t.reads.snapshots };

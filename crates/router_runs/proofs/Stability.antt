@@ -14,6 +14,7 @@ use Rattle.stable_paths.specs.Promises.{Chooses}
 use Rattle.run_model.specs.Routes as routes
 use Rattle.router_model.specs.Settings.{Setting, IsSetting, joins, linked, is_router, names}
 use Rattle.router_runs.specs.Model.{network_of}
+use Rattle.router_runs.specs.Mirrors.{EachSettingHasItsModel}
 use Rattle.router_runs.proofs.Lower.{Laws}
 use Rattle.router_runs.proofs.Words.{same_view}
 
@@ -107,3 +108,6 @@ module _ (laws : Laws) where
       let p : Problem = record { net = g.net; prefix = q; originated = originated } in
       let is = named_is g.net.origins q named in
       (laws.stable p (record { network = set.network; named = is }) by (network_of g) (chooses_as g set q is by originated same) paths).1 stable
+
+  pub each_setting_has_its_model : EachSettingHasItsModel
+  each_setting_has_its_model g set = record { network = network_is g set; routers = router_is g; linked = linked_is g.net; named = named_is g.net.origins }

@@ -28,7 +28,7 @@ use Rattle.router_runs.specs.Model.{network_of}
 use Rattle.router_runs.specs.Reading.{state_of}
 use Rattle.router_runs.specs.Doing.{Stands}
 use Rattle.router_runs.specs.Kept.{Holds}
-use Rattle.router_runs.specs.Mirrors.{ModelRouter, ModelEvent, AreAlike, Goes, ReadsPart, ReadsRecording, ReadsSnapshots, ReadsRouter}
+use Rattle.router_runs.specs.Mirrors.{ModelRouter, ModelEvent, is_command, AreAlike, Goes, ReadsPart, ReadsRecording, ReadsSnapshots, ReadsRouter}
 use Rattle.router_runs.proofs.Stepping.{Before, same_number}
 use Rattle.router_runs.proofs.Doing.{event_stands, up_in}
 use Rattle.router_runs.proofs.Events.{untold_up}
@@ -71,8 +71,8 @@ untold_near false c f q h = absurd (cc h)
 
 module _ (laws : Laws) (g : Setting) (net : IsNetwork g.net) (u : ℕ) (far : ℕ → End Message) (Still : Type 0) (x : Router) (before : ℕ → List (Passing Message)) (n : ModelRouter)
     (known : (v : ℕ) → linked g.net u v ≡ true → Before laws g v (x.sides v) (before v) (n.recorder.ends v) (far v)) (reads : ReadsRouter g u x n) where
-  abbrev StepTo : Router → (ℕ → List (Entry Message)) → Type 0
-  StepTo y new = LocalStep laws g net u far Still x y new before (λ v. []) n
+  abbrev StepTo : ℕ → Router → (ℕ → List (Entry Message)) → Type 0
+  StepTo commands y new = LocalStep laws g net u far Still commands x y new before (λ v. []) n
 
   alike : AreAlike g u x n.recorder.ends
   alike = record {
@@ -83,7 +83,7 @@ module _ (laws : Laws) (g : Setting) (net : IsNetwork g.net) (u : ℕ) (far : �
   -- a step that leaves the sides and the recordings as they are
   tables_step : (y : Router) (e : ModelEvent) → y.sides ≡ x.sides → y.snapshots ≡ x.snapshots → (router_after (network_of g) u n e).recorder ≡ n.recorder → (router_after (network_of g) u n e).kept_at ≡ n.kept_at
       → (router_after (network_of g) u n e).originated_at ≡ n.originated_at → (router_after (network_of g) u n e).kept ≡ y.kept → (router_after (network_of g) u n e).originated ≡ y.originated
-      → Goes g u far Still n (router_after (network_of g) u n e) [] → StepTo y (λ v. [])
+      → Goes g u far Still (is_command e) n (router_after (network_of g) u n e) [] → StepTo (is_command e) y (λ v. [])
   tables_step y e sides snapshots recorder kept_at originated_at kept originated goes =
       let m : ModelRouter = router_after (network_of g) u n e in
       record {
@@ -104,24 +104,24 @@ module _ (laws : Laws) (g : Setting) (net : IsNetwork g.net) (u : ℕ) (far : �
 
   -- ---- originating and withdrawing
 
-  commanded : (y : Router) → y.sides ≡ x.sides → y.snapshots ≡ x.snapshots → (Still → ⊥) → StepTo y (λ v. [])
-  commanded y sides snapshots loud =
+  commanded : (y : Router) → y.sides ≡ x.sides → y.snapshots ≡ x.snapshots → y.kept ≡ x.kept → (Still → ⊥) → StepTo 1 y (λ v. [])
+  commanded y sides snapshots kept loud =
       let e : ModelEvent = Command y.originated y.kept in
       tables_step y e sides snapshots refl refl refl refl refl
-      (one_goes g u far Still n e [] tt refl (λ s c h is. elim h [ inl still ↦ absurd (loud still) | inr free ↦ absurd (let z = sym free ∙ is in cc z) ]))
+      (one_goes g u far Still n e [] (inl (kept ∙ sym reads.kept)) refl (λ s c h is. elim h [ inl still ↦ absurd (loud still) | inr free ↦ absurd (let z = sym free ∙ is in cc z) ]))
 
-  pub originate_step : (q : PrefixView) → (Still → ⊥) → StepTo (steps.after g u x (alone (Obeys (command.Originate q)))) (says g u x (alone (Obeys (command.Originate q))))
-  originate_step q loud = commanded (originating x q true) refl refl loud
+  pub originate_step : (q : PrefixView) → (Still → ⊥) → StepTo 1 (steps.after g u x (alone (Obeys (command.Originate q)))) (says g u x (alone (Obeys (command.Originate q))))
+  originate_step q loud = commanded (originating x q true) refl refl refl loud
 
-  pub withdraw_step : (q : PrefixView) → (Still → ⊥) → StepTo (steps.after g u x (alone (Obeys (command.Withdraw q)))) (says g u x (alone (Obeys (command.Withdraw q))))
-  withdraw_step q loud = commanded (originating x q false) refl refl loud
+  pub withdraw_step : (q : PrefixView) → (Still → ⊥) → StepTo 1 (steps.after g u x (alone (Obeys (command.Withdraw q)))) (says g u x (alone (Obeys (command.Withdraw q))))
+  withdraw_step q loud = commanded (originating x q false) refl refl refl loud
 
   -- ---- deciding
 
   route_is : (q : PrefixView) → routes.route (network_of g) u n.recorder.ends q (n.originated q) ≡ best_path g u x q
   route_is q = ap (λ (o : PrefixView → Bool). routes.route (network_of g) u n.recorder.ends q (o q)) reads.originated ∙ routes_alike g u x n.recorder.ends alike q
 
-  decides_at : (o : Option PrefixView) → undecided g u x ≡ o → is_some o ≡ true → StepTo (keeping x o (best_path g u x)) (λ v. [])
+  decides_at : (o : Option PrefixView) → undecided g u x ≡ o → is_some o ≡ true → StepTo 0 (keeping x o (best_path g u x)) (λ v. [])
   decides_at None e h = absurd (cc h)
   decides_at (Some q) e h =
       let event : ModelEvent = Decide q in
@@ -131,7 +131,7 @@ module _ (laws : Laws) (g : Setting) (net : IsNetwork g.net) (u : ℕ) (far : �
       (ap (λ r. λ p. cond (is_prefix q p) r (n.kept p)) (route_is q) ∙ ap (λ k. λ p. cond (is_prefix q p) (best_path g u x q) (k p)) reads.kept) reads.originated
       (one_goes g u far Still n event [] (named, λ same. differs (x.kept q) (best_path g u x q) other (sym (ap (λ k. k q) reads.kept) ∙ (same ∙ route_is q))) refl (λ s c still is. tt))
 
-  pub decide_step : May g u x (alone Decides) → StepTo (steps.after g u x (alone Decides)) (says g u x (alone Decides))
+  pub decide_step : May g u x (alone Decides) → StepTo 0 (steps.after g u x (alone Decides)) (says g u x (alone Decides))
   decide_step may = decides_at (undecided g u x) refl may
 
   -- ---- telling
@@ -193,7 +193,7 @@ module _ (laws : Laws) (g : Setting) (net : IsNetwork g.net) (u : ℕ) (far : �
   mentions_path (v ∷ path) q = refl
 
   advertises_at : (w : ℕ) (o : Option PrefixView) → unadvertised g u x w ≡ o → is_some o ≡ true
-      → StepTo (telling_to x w o (telling_of g u x)) (λ v. steps.says_where (v == w) (steps.says_update g u x v o))
+      → StepTo 0 (telling_to x w o (telling_of g u x)) (λ v. steps.says_where (v == w) (steps.says_update g u x v o))
   advertises_at w None e h = absurd (cc h)
   advertises_at w (Some q) e h =
       let i : Update = telling_of g u x q in
@@ -238,5 +238,5 @@ module _ (laws : Laws) (g : Setting) (net : IsNetwork g.net) (u : ℕ) (far : �
           (told_turned v true (telling_of g u x q) near_v (λ t. ap (λ y. is_up (x.sides y)) same ∙ untold_up laws (linked g.net u w) (is_up (x.sides w)) (find (is_unadvertised g u x w) (prefixes g)) q e))
       there v false is near_v = told_turned v false (telling_of g u x q) near_v (λ t. absurd (cc t))
 
-  pub advertise_step : (w : ℕ) → May g u x (alone (Advertises w)) → StepTo (steps.after g u x (alone (Advertises w))) (says g u x (alone (Advertises w)))
+  pub advertise_step : (w : ℕ) → May g u x (alone (Advertises w)) → StepTo 0 (steps.after g u x (alone (Advertises w))) (says g u x (alone (Advertises w)))
   advertise_step w may = advertises_at w (unadvertised g u x w) refl may

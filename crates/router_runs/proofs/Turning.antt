@@ -84,7 +84,7 @@ module _ (laws : Laws) (g : Setting) (u : ℕ) (far : ℕ → End Message) (Stil
     pub end : End Message
     pub used : List Message
     pub are : filter is_update used ≡ map UpdateMsg us
-    pub goes : Goes g u far Still n m (lost_by_close (is_up s && not (is_up t)) n.recorder.unfinished v s.link.epoch)
+    pub goes : Goes g u far Still 0 n m (lost_by_close (is_up s && not (is_up t)) n.recorder.unfinished v s.link.epoch)
     pub moved : IsMoved n m v end (is_up s && not (is_up t)) used
     pub turned : IsTurned v t new came (n.recorder.ends v) end
     pub took : end.taken ≡ (n.recorder.ends v).taken ++ past
@@ -125,7 +125,7 @@ module _ (laws : Laws) (g : Setting) (u : ℕ) (far : ℕ → End Message) (Stil
         end = c;
         used = uses a ms;
         are = used_updates laws s t a ms us x.reads (subst (λ i. Reads t i) (sym l.1) does.stands.reads) hears;
-        goes = subst (λ o. Goes g u far Still n (moved laws g u v apart far Still n ms) o)
+        goes = subst (λ o. Goes g u far Still 0 n (moved laws g u v apart far Still n ms) o)
             (ap (λ k. lost_by_close k n.recorder.unfinished v (lost_number a ms)) lost ∙ same_loss b n.recorder.unfinished v (lost_number a ms) s.link.epoch number) go.0;
         moved = subst (λ k. IsMoved n (moved laws g u v apart far Still n ms) v c k (uses a ms)) lost (subst (λ i. IsMoved n (moved laws g u v apart far Still n ms) v i (loses a ms) (uses a ms)) l.1 go.1);
         turned = record { stands = does.stands; appended = does.appends; holds = d.holds };
@@ -151,7 +151,7 @@ module _ (laws : Laws) (g : Setting) (u : ℕ) (far : ℕ → End Message) (Stil
 
     pub record AllTurn (n : ModelRouter) (vs : List ℕ) : Type 0 where
       pub m : ModelRouter
-      pub goes : Goes g u far Still n m (lost_first (first_left vs left_at) n.recorder.unfinished)
+      pub goes : Goes g u far Still 0 n m (lost_first (first_left vs left_at) n.recorder.unfinished)
       pub there : (v : ℕ) → list_any (nat_eq v) vs ≡ true → IsTurned v (y.sides v) (new v) (before v ++ items v) (ends v) (m.recorder.ends v)
       pub last : m.recorder.last ≡ n.recorder.last
       pub copy : m.recorder.copy ≡ n.recorder.copy
@@ -238,7 +238,7 @@ module _ (laws : Laws) (g : Setting) (u : ℕ) (far : ℕ → End Message) (Stil
         (λ s h. elim h [ inl t ↦ inl t | inr free ↦ inr (ap (λ (c : ℕ → Option (ℕ → End Message)). c s) f.moved.copy ∙ free) ]) in
         record {
           m = m;
-          goes = subst (λ o. Goes g u far Still n m o)
+          goes = subst (λ o. Goes g u far Still 0 n m o)
               (ap (λ o. o ++ lost_first (first_left vs left_at) k.recorder.unfinished) lost
               ∙ (ap (λ o. lost_first (close_at v left) n.recorder.unfinished ++ lost_first (first_left vs left_at) o) unf ∙ lost_both (close_at v left) (first_left vs left_at) n.recorder.unfinished)) both;
           there = λ w h. there_at w (nat_eq w v) refl h;

@@ -2,29 +2,33 @@
 -- recording.
 -- g is a setting, x a router, twin the one in the laws of runs, u v routers' numbers, l an event of a twin with its
 -- offers, m a message, k a snapshot's number, q a prefix.
-use Rattle.std.specs.Prelude.{ℕ, ◌≡◌, ◌<◌, true, List, [], ◌∷◌, ◌++◌, Option, None, Some}
+use Rattle.std.specs.Prelude.{ℕ, ◌+◌, ◌≡◌, ◌↔◌, ◌<◌, ◌==◌, cond, true, List, [], ◌∷◌, ◌++◌, Option, None, Some}
 use Rattle.std.specs.List.{list_any}
 use mathlib.Core.Logic.{◌⊎◌}
 use Rattle.prefix_lanes.specs.Bits.{PrefixView}
 use Rattle.bgp_codec.specs.declared.message.Message.{Message}
+use Rattle.ranked_policy.specs.Plans.{IsRouter, IsNamed, Linked}
 use Rattle.run_model.specs.Links as links
 use Rattle.run_model.specs.Links.{End}
 use Rattle.run_model.specs.Recordings.{MayAct}
 use Rattle.run_model.specs.Routes as routes
-use Rattle.run_model.specs.Routes.{Acts, Advertise, Decide, Command, NetworkStep, TellsNoUpdate, told_word, router_after}
+use Rattle.run_model.specs.Routes.{Acts, Advertise, Decide, Command, NetworkStep, TellsNoUpdate, told_word, router_after, advanced}
 use Rattle.run_model.specs.Quiet as model
 use Rattle.run_model.specs.Quiet.{IsQuietEvent}
 use Rattle.run_model.specs.Offers as offers
 use Rattle.run_model.specs.Offers.{Offering, OfferStep, Happens, Queues, IsOfferRunOf, final, network_steps, made_by}
 use Rattle.snap_marker.specs.Recordings.{RouterOffer, Recording, Snapshots}
-use Rattle.router_model.specs.Settings.{Setting, linked, peers}
+use Rattle.router_model.specs.declared.command.Command.TheVariants as command
+use Rattle.router_model.specs.Settings.{Setting, is_router, names, linked, peers}
 use Rattle.router_model.specs.Sides.{is_up}
 use Rattle.router_model.specs.State.{Router}
 use Rattle.router_model.specs.Laws.{all_passes}
+use Rattle.router_model.specs.Step.{RouterEvent, Obeys}
 use Rattle.router_runs.specs.Model.{network_of}
-use Rattle.run_model.specs.Network.{Run}
+use Rattle.run_model.specs.Network.{Run, alone}
 use Rattle.router_model.specs.Settings.{IsSetting}
 use Rattle.router_runs.specs.Runs.{RunOrder, RunState, IsRunTo, logged_steps, side_of, log_of}
+use Rattle.router_runs.specs.Acts.{ModelRouters, ModelStep}
 use Rattle.router_runs.specs.Reading.{Reads}
 use Rattle.router_runs.specs.Doing.{Stands}
 use Rattle.router_runs.specs.Kept.{Holds}
@@ -41,6 +45,16 @@ ModelOffering = Offering Message PrefixView (List ℕ)
 
 abbrev pub ModelSteps : Type 0
 ModelSteps = List (OfferStep Message PrefixView (List ℕ))
+
+-- the network that a setting stands for is one of the laws, with its routers and links, and names no other prefix
+pub record IsModelOf (g : Setting) : Type 0 where
+  pub network : routes.IsNetwork (network_of g)
+  pub routers : (u : ℕ) → ((is_router g u ≡ true) ↔ IsRouter g.net.routers u)
+  pub linked : (u v : ℕ) → ((linked g.net u v ≡ true) ↔ Linked g.net.links u v)
+  pub named : (q : PrefixView) → names g.net.origins q ≡ true → IsNamed g.net.origins q
+
+abbrev pub EachSettingHasItsModel : Type 0
+EachSettingHasItsModel = (g : Setting) → IsSetting g → IsModelOf g
 
 -- ---- one router
 
@@ -75,6 +89,40 @@ pub record ReadsRouter (g : Setting) (u : ℕ) (x : Router) (twin : ModelRouter)
   pub originated : twin.originated ≡ x.originated
   pub snapshots : ReadsSnapshots g u x.snapshots twin
 
+-- ---- commands: to originate, to withdraw and to restart are what the laws of runs call a command
+
+abbrev pub is_command : ModelEvent → ℕ
+is_command (Acts link_act) = 0
+is_command (Advertise v q m) = 0
+is_command (Decide q) = 0
+is_command (Command originated kept) = 1
+
+abbrev pub is_table_command : RouterEvent → ℕ
+is_table_command (alone (Obeys (command.Originate q))) = 1
+is_table_command (alone (Obeys (command.Withdraw q))) = 1
+is_table_command (alone (Obeys command.Restart)) = 1
+is_table_command _ = 0
+
+-- how many of these events are commands of router u
+abbrev pub commands_at : ℕ → List ModelStep → ℕ
+commands_at u [] = 0
+commands_at u (t ∷ ts) = cond (u == t.router) (is_command t.event) 0 + commands_at u ts
+
+abbrev pub table_commands_at : ℕ → RunOrder → ℕ
+table_commands_at u [] = 0
+table_commands_at u (d ∷ ds) = cond (u == d.router) (is_table_command d.event) 0 + table_commands_at u ds
+
+-- a command leaves what is kept, or forgets it
+abbrev pub Forgets : ModelRouter → ModelEvent → Type 0
+Forgets twin (Acts link_act) = Unit {0}
+Forgets twin (Advertise v q m) = Unit {0}
+Forgets twin (Decide q) = Unit {0}
+Forgets twin (Command originated kept) = (kept ≡ twin.kept) ⊎ (kept ≡ (λ q. []))
+
+abbrev pub CommandsForget : Setting → ModelRouters → List ModelStep → Type 0
+CommandsForget g twins [] = Unit {0}
+CommandsForget g twins (t ∷ ts) = Forgets (twins t.router) t.event × CommandsForget g (advanced (network_of g) twins t) ts
+
 -- ---- events of one router, one after another, while the ends of its peers stand still
 
 -- an event and the offers that it queues
@@ -94,7 +142,7 @@ module _ (g : Setting) (u : ℕ) (far_ends : ℕ → End Message) where
   MayLocal twin (Decide q) =
       ((network_of g).named q ≡ true)
       × (twin.kept q ≡ routes.route (network_of g) u twin.recorder.ends q (twin.originated q) → ⊥)
-  MayLocal twin (Command originated kept) = Unit {0}
+  MayLocal twin (Command originated kept) = Forgets twin (Command originated kept)
 
   abbrev pub IsLocalRun : ModelRouter → List Local → Type 0
   IsLocalRun twin [] = Unit {0}
@@ -110,6 +158,10 @@ abbrev pub queued_by : List Local → List RouterOffer
 queued_by [] = []
 queued_by (l ∷ ls) = l.queues ++ queued_by ls
 
+abbrev pub commands_by : List Local → ℕ
+commands_by [] = 0
+commands_by (l ∷ ls) = is_command l.event + commands_by ls
+
 -- each event behind a recording of k is quiet
 abbrev pub IsLocallyQuiet : Setting → ℕ → ℕ → ModelRouter → List Local → Type 0
 IsLocallyQuiet g u k twin [] = Unit {0}
@@ -117,14 +169,15 @@ IsLocallyQuiet g u k twin (l ∷ ls) =
     ((copy : ℕ → End Message) → twin.recorder.copy k ≡ Some copy → IsQuietEvent twin l.event)
     × IsLocallyQuiet g u k (router_after (network_of g) u twin l.event) ls
 
--- events of router u lead from one state of it to another, and queue these offers; if they have to be still, each
--- behind a recording is quiet
-pub record Goes (g : Setting) (u : ℕ) (far_ends : ℕ → End Message) (Still : Type 0) (from to : ModelRouter)
-    (offers : List RouterOffer) : Type 0 where
+-- events of router u lead from one state of it to another, and queue these offers; so many are commands; if they have
+-- to be still, each behind a recording is quiet
+pub record Goes (g : Setting) (u : ℕ) (far_ends : ℕ → End Message) (Still : Type 0) (commands : ℕ)
+    (from to : ModelRouter) (offers : List RouterOffer) : Type 0 where
   pub events : List Local
   pub run : IsLocalRun g u far_ends from events
   pub leads : local_after g u from events ≡ to
   pub queues : queued_by events ≡ offers
+  pub counts : commands_by events ≡ commands
   pub calm : (k : ℕ) → (Still ⊎ (from.recorder.copy k ≡ None)) → IsLocallyQuiet g u k from events
 
 pub record Recorded (from to : ModelRouter) (low high : ℕ) : Type 0 where
@@ -179,6 +232,8 @@ pub record Mirrored (g : Setting) (order : RunOrder) (state : RunState) : Type 0
       → Copied g order state ((final (network_of g) steps).routers u) u k copy
   pub quiet : (k : ℕ) → IsQuietSince g k order state
       → model.IsQuietSince (network_of g) k (routes.first_routers (network_of g)) (network_steps (network_of g) steps)
+  pub commands : (u : ℕ) → commands_at u (network_steps (network_of g) steps) ≡ table_commands_at u order
+  pub forgets : CommandsForget g (routes.first_routers (network_of g)) (network_steps (network_of g) steps)
 
 -- the run of the laws goes on as the run of routers does, and forgets nothing that was recorded
 pub record GoesOn (g : Setting) (before : RunOrder) (at : RunState) (mirrored : Mirrored g before at)

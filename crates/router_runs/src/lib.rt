@@ -9,6 +9,7 @@
 
 mod journals;
 pub mod laws;
+mod mirrors;
 mod snapshots;
 
 pub use journals::{NetworkRouters, causal_orders_are_runs_of_routers};
@@ -16,4 +17,5 @@ pub use laws::{
     close_loses_the_recording, each_network_has_a_setting, nothing_is_acted_on_after_the_close,
     quiet_steps_are_acts, runs_keep, updates_pass_in_order, what_is_said_is_good,
 };
+pub use mirrors::runs_are_mirrored;
 pub use snapshots::snapshots_of_runs;

@@ -14,7 +14,7 @@ use run_model::{
 };
 
 /// The laws of network runs on snapshots.
-fn snapshot_laws_below()
+pub(crate) fn snapshot_laws_below()
     ensures { SnapshotLaws }
 {
     offer_runs_are_network_runs::<Message, Prefix, Path>();

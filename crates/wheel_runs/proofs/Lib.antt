@@ -1,0 +1,7 @@
+mod BoundLemmas
+mod WalkLemmas
+mod ChangeLemmas
+mod OneLemmas
+mod SettleLemmas
+mod ExampleLemmas
+mod TurningLemmas

@@ -1,0 +1,5 @@
+pub mod Bounds
+pub mod Changes
+pub mod Settling
+pub mod Examples
+pub mod Turning
