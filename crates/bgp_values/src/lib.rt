@@ -2,12 +2,12 @@
 //! messages, flags and codes of path attributes, and the ranges of what a speaker says of itself (RFC 4271).
 //!
 //! Bodies, definitions and clauses of the crates above take them from here. Its contract: each range is tested as
-//! `specs/Ranges` defines it. No proof shows that a number is the standard's: compare it with the section that its line
-//! names.
+//! `specs/Ranges` defines it, and each number is the literal that `specs/Numbers` has beside its section.
 #![tactic(auto)]
 
 mod attributes;
 mod faults;
+pub mod laws;
 mod messages;
 mod ranges;
 mod width;

@@ -3,6 +3,8 @@
 ghost use Rattle.net_text.specs.Declaring.{NetworksHaveWhatIsNamed};
 ghost use Rattle.net_text.specs.Layout.{WordsStandBetweenBlanks, LinesEndByLineFeeds};
 ghost use Rattle.net_text.specs.Laws.{FirstFaultDecidesNetworks, FirstFaultDecidesAssignments, OneNetwork, SettingsAreNamed, HoldTimesFit, SpeltIsNotRefused, OneRefusal};
+ghost use Rattle.std.specs.Prelude.{◌≡◌};
+ghost use Rattle.net_text.specs.declared.settings.TheConstants.{MOST_SECONDS, USUAL_HOLD, USUAL_RESTART, USUAL_PIPE};
 
 /// A network text is refused at a line exactly where that line has the fault and no line before it has one.
 pub fn first_fault_decides_networks()
@@ -49,4 +51,11 @@ pub fn what_is_spelt_is_not_refused()
 /// A network text is refused at one line and with one code, want of memory aside.
 pub fn texts_are_refused_once()
     ensures { OneRefusal }
+{}
+
+/// What settings are where no line names them, in seconds and items, and the greatest number of seconds of one that is
+/// named. A usual piece has [`ranked_policy::GREATEST_CUT`] octets.
+pub fn constants_are_these()
+    ensures usual { (USUAL_HOLD ≡ 90) × (USUAL_RESTART ≡ 0) × (USUAL_PIPE ≡ 64) }
+    ensures most { MOST_SECONDS ≡ 65535 }
 {}

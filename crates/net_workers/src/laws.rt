@@ -10,6 +10,10 @@ ghost use Rattle.worker_loop.specs.declared.journal.WorkerEvent.{WorkerEvent};
 ghost use Rattle.net_workers.specs.Called.{Orders, called_steps};
 ghost use Rattle.net_workers.specs.Gathered.{EventsCanBeSorted};
 ghost use Rattle.net_workers.specs.Runs.{RecordsAreRuns, RecordsKeepTheirPromises};
+ghost use Rattle.std.specs.Prelude.{◌≡◌, ◌≤◌};
+ghost use Rattle.ranked_policy.specs.declared.limits.TheConstants.{GREATEST_PIPE};
+ghost use Rattle.ruled_pipe.specs.declared.ends.TheConstants.{MOST_ITEMS};
+ghost use Rattle.net_workers.specs.declared.record.TheConstants.{MOST_TURNS};
 
 use router_runs::{
     NetworkRouters, close_loses_the_recording, nothing_is_acted_on_after_the_close,
@@ -110,4 +114,10 @@ pub fn records_are_runs<G: Gate>()
 /// answers, be there room for it or not.
 pub fn events_can_be_sorted()
     ensures { EventsCanBeSorted }
+{}
+
+/// A worker has at most 1,000,000 chores, and a pipe of this crate can hold what a network may ask of one.
+pub fn constants_are_these()
+    ensures turns { MOST_TURNS ≡ 1000000 }
+    ensures pipes { GREATEST_PIPE ≤ MOST_ITEMS }
 {}

@@ -1,9 +1,9 @@
 //! A network in threads: each router with a worker in a thread of its own, pipes between them, and one
 //! board for their offers.
 //!
-//! Its one contract: if [`run_net`] answers a record, the threads' events, put into one order by their stamps, are a
-//! run of the network's routers, and the record's routers, pipes and offers are those of its last state.
-//! [`run_journals`] answers what they did without that order, which [`Journals::gather`] puts them into.
+//! Its one contract: if [`run_journals`] answers, the threads' events, put into one order by their stamps, are a run of
+//! the network's routers, and the routers, pipes and offers that it answers are those of its last state.
+//! [`Journals::gather`] puts them into that order; [`run_net`] does both.
 //!
 //! Left out: that a thread gets on, that two of them run at once, and when anything arrives.
 #![tactic(auto)]

@@ -15,6 +15,8 @@ mod mask;
 mod prefix;
 
 pub use cover_table::{CAPACITY, CoverError, CoverTable};
-pub use laws::{a_prefix_is_its_bits, masking_clears_bits, the_longest_is_one};
+pub use laws::{
+    a_prefix_is_its_bits, constants_are_these, masking_clears_bits, the_longest_is_one,
+};
 pub use mask::mask_all;
 pub use prefix::Prefix;

@@ -2,6 +2,8 @@
 
 ghost use Rattle.ranked_policy.specs.Promises.{OneRule, EachPolicyIsAnOrder};
 ghost use Rattle.ranked_policy.specs.Tests.{PermitsIsATest, PrefersIsATest, BestIsFirst};
+ghost use Rattle.std.specs.Prelude.{◌≡◌};
+ghost use Rattle.ranked_policy.specs.declared.limits.TheConstants.{MOST_ROUTERS, MOST_LINKS, MOST_PREFIXES, MOST_RULES, MOST_PATHS, LONGEST_PATH, GREATEST_CUT, GREATEST_PIPE};
 
 use prefix_lanes::a_prefix_is_its_bits;
 
@@ -35,3 +37,11 @@ pub fn the_best_is_the_first()
 {
     a_prefix_is_its_bits();
 }
+
+/// The limits of a network: routers, links of a router, prefixes; rules of a router, paths of a rule, routers of a path;
+/// octets of a piece, items of a pipe.
+pub fn constants_are_these()
+    ensures networks { (MOST_ROUTERS ≡ 64) × (MOST_LINKS ≡ 16) × (MOST_PREFIXES ≡ 256) }
+    ensures rules { (MOST_RULES ≡ 64) × (MOST_PATHS ≡ 32) × (LONGEST_PATH ≡ 16) }
+    ensures settings { (GREATEST_CUT ≡ 4096) × (GREATEST_PIPE ≡ 1024) }
+{}

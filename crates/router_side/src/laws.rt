@@ -2,6 +2,8 @@
 
 ghost use Rattle.router_side.specs.Acting.{UpdatesAreActedOn, TellingsAreSayable};
 ghost use Rattle.router_side.specs.Freshness.{SessionsKeepFresh, SignsKeepFresh, MessagesKeepFresh};
+ghost use Rattle.std.specs.Prelude.{◌≡◌};
+ghost use Rattle.router_side.specs.declared.told_path.TheConstants.{MOST_NUMBERS};
 
 use bgp_codec::laws::written_has_a_header;
 
@@ -30,3 +32,9 @@ pub fn told_updates_are_sayable()
 {
     written_has_a_header();
 }
+
+/// A path that is told as the UPDATEs of routers are has at most 63 numbers, so that its AS_PATH is one segment of at most
+/// 254 octets.
+pub fn constants_are_these()
+    ensures numbers { MOST_NUMBERS ≡ 63 }
+{}

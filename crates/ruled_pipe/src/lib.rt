@@ -14,6 +14,7 @@
 #![tactic(auto)]
 
 mod ends;
+pub mod laws;
 mod log;
 mod refusal;
 mod rule;

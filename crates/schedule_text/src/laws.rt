@@ -2,6 +2,8 @@
 //! rests on; its contract is the law.
 
 ghost use Rattle.schedule_text.specs.Sayings.{LinesAreReadAsTheySay};
+ghost use Rattle.std.specs.Prelude.{◌≡◌};
+ghost use Rattle.schedule_text.specs.declared.operands.TheConstants.{MOST_COUNT};
 
 use net_text::laws::words_stand_between_blanks;
 
@@ -11,3 +13,8 @@ pub fn lines_are_read_as_they_say()
 {
     words_stand_between_blanks();
 }
+
+/// `rounds` and `ticks` take a number of at most 1,000,000.
+pub fn constants_are_these()
+    ensures counts { MOST_COUNT ≡ 1000000 }
+{}

@@ -1,6 +1,8 @@
 //! Laws of the table and the timers, for every session and every run of events, seconds and UPDATEs sent.
 
 ghost use Rattle.session_fsm.specs.Laws.{ActsInEstablishedAlone, UpEntersEstablished, DownLeavesEstablished, UpAndDownTakeTurns, NothingIsActedOnAfterAClose, LeavingForIdleHangsUp, HoldTimeZeroNeverExpires, HoldTimerExpiresAfterSilence, RestartWaitsForAStart, EachTimerRunsInItsStates, HoldTimerRunsOut, KeepaliveTimerRunsOut, ConnectRetryTimerRunsOut, RestartTimerRunsOut};
+ghost use Rattle.std.specs.Prelude.{◌≡◌};
+ghost use Rattle.session_fsm.specs.declared.session.table.TheConstants.{CONNECT_RETRY_TIME, LARGE_HOLD_TIME};
 
 /// An UPDATE is acted on exactly where it comes in Established. The router decides what acting on it means.
 pub fn updates_act_in_established_alone()
@@ -54,4 +56,10 @@ pub fn timers_run_out_in_their_last_second()
     ensures keepalive { KeepaliveTimerRunsOut }
     ensures connect_retry { ConnectRetryTimerRunsOut }
     ensures restart { RestartTimerRunsOut }
+{}
+
+/// The ConnectRetryTime is 120 seconds (RFC 4271 section 10), and the large hold time of OpenSent 240 (section 8.2.2).
+pub fn constants_are_these()
+    ensures retry { CONNECT_RETRY_TIME ≡ 120 }
+    ensures hold { LARGE_HOLD_TIME ≡ 240 }
 {}

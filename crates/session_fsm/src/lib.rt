@@ -24,9 +24,10 @@ pub use actions::{Action, Actions};
 pub use config::SessionConfig;
 pub use event::FsmEvent;
 pub use laws::{
-    each_timer_runs_in_its_states, hold_time_zero_never_expires, hold_timer_expires_after_silence,
-    leaving_for_idle_hangs_up, nothing_is_acted_on_after_a_close, restart_waits_for_a_start,
-    timers_run_out_in_their_last_second, up_and_down_take_turns, updates_act_in_established_alone,
+    constants_are_these, each_timer_runs_in_its_states, hold_time_zero_never_expires,
+    hold_timer_expires_after_silence, leaving_for_idle_hangs_up, nothing_is_acted_on_after_a_close,
+    restart_waits_for_a_start, timers_run_out_in_their_last_second, up_and_down_take_turns,
+    updates_act_in_established_alone,
 };
 pub use session::Session;
 pub use state::State;

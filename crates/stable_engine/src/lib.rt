@@ -8,10 +8,12 @@
 //! Left out: the search, which is `stable_search`'s; dispute wheels.
 #![tactic(auto)]
 
+pub mod laws;
 mod lines;
 mod parts;
 mod prefixes;
 mod stable;
 pub mod status;
 
-pub use stable::StableEngine;
+pub use lines::put_unknown_line;
+pub use stable::{StableEngine, network_part};

@@ -81,7 +81,7 @@ pub(crate) fn put_choice_line(paths: &[Path], out: &mut Vec<u8>) -> Result<(), A
 
 /// Appends a prefix of which not all is known, a word that says why, and the routers that it is about.
 #[tactic(auto, unfolding(crate::specs::Listing::unknown_line))]
-pub(crate) fn put_unknown_line(
+pub fn put_unknown_line(
     prefix: &Prefix,
     why: &[u8],
     routers: &[Asn],

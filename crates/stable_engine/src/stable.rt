@@ -11,8 +11,8 @@ use stable_search::SearchLimits;
 use std::alloc::{AllocError, Global};
 use text_engines::{Engine, text_output};
 
-// The lines of a network, without those of an assignment or a schedule behind it.
-fn network_part(input: &[u8]) -> &[u8]
+/// The lines of a network, without those of an assignment or a schedule behind it.
+pub fn network_part(input: &[u8]) -> &[u8]
     ensures { lines_of result.now ≡ network_lines input.now }
 {
     let split = split_at_section(input, b"assignment");

@@ -2,6 +2,9 @@
 //! its contract is the law.
 
 ghost use Rattle.text_engines.specs.Laws.{DecodesToOne, ChecksToOne};
+ghost use Rattle.std.specs.Prelude.{◌≡◌};
+ghost use Rattle.text_engines.specs.declared.status.TheConstants.{DONE, REFUSED, USAGE, MEMORY, STOPPED};
+ghost use Rattle.text_engines.specs.declared.transfer.TheConstants.{INPUT_LIMIT, CHUNK};
 
 use bgp_framing::laws::splits_once;
 use net_text::laws::{
@@ -27,3 +30,10 @@ pub fn check_prints_one_text()
     texts_are_refused_once();
     one_best();
 }
+
+/// The statuses that the program ends with, but for that of a search that is not whole; the most octets of an input, and
+/// those of a piece that is read at once.
+pub fn constants_are_these()
+    ensures statuses { (DONE ≡ 0) × (REFUSED ≡ 1) × (USAGE ≡ 2) × (MEMORY ≡ 3) × (STOPPED ≡ 4) }
+    ensures input { (INPUT_LIMIT ≡ 16777216) × (CHUNK ≡ 65536) }
+{}

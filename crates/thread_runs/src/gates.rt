@@ -5,7 +5,6 @@ ghost use Rattle.worker_loop.specs.declared.chore.Chore.TheVariants.{Turn};
 ghost use Rattle.thread_runs.specs.Gates.{AreChores, chore_at, later_chore, given_by, script_of};
 
 use net_workers::{Chore, Gate};
-use ranked_policy::Asn;
 use router_model::Command;
 use std::sync::Wait;
 
@@ -91,7 +90,7 @@ impl Gate for RunGate {
 
     ghost given = { given_by };
 
-    fn next<R: Wait>(&mut self, _rt: &R, _router: Asn, turn: u32) -> Chore {
+    fn next<R: Wait>(&mut self, _rt: &R, turn: u32) -> Chore {
         self.count = u64::from(turn) + 1;
         chore_at(self.opening.as_slice(), self.spacing, self.snapshots, turn)
     }

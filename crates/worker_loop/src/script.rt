@@ -5,7 +5,6 @@ ghost use Rattle.worker_loop.specs.Script.{chore_at, given_by};
 
 use crate::chore::Chore;
 use crate::traits::Gate;
-use ranked_policy::Asn;
 use std::sync::Wait;
 
 /// A gate that gives the first chore that is listed for a turn, else a Turn.
@@ -58,7 +57,7 @@ impl Gate for ScriptGate {
 
     ghost given = { given_by };
 
-    fn next<R: Wait>(&mut self, _rt: &R, _router: Asn, turn: u32) -> Chore {
+    fn next<R: Wait>(&mut self, _rt: &R, turn: u32) -> Chore {
         self.count = u64::from(turn) + 1;
         chore_at(self.script.as_slice(), turn)
     }

@@ -29,8 +29,8 @@ pub trait Gate {
     /// The chores given so far.
     ghost given: { Self → List Chore };
 
-    /// The next chore of a router's worker, which was given `turn` chores so far.
-    fn next<R: Wait>(&mut self, rt: &R, router: Asn, turn: u32) -> Chore
+    /// The next chore of a worker, which was given `turn` chores so far.
+    fn next<R: Wait>(&mut self, rt: &R, turn: u32) -> Chore
         requires { turn ≡ length (given self.old) }
         ensures given { given self.new ≡ given self.old ++ result ∷ [] }
         ensures script { script self.new ≡ script self.old };

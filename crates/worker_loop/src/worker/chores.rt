@@ -41,7 +41,7 @@ impl<'a, L: Pipes, D: Desk, G: Gate> Worker<'a, L, D, G> {
         ensures full { OnErr result (vec_capacity self.new.journal.chores ≤ length self.new.journal.chores.items) }
     {
         self.journal.chores.reserve(1)?;
-        let chore = self.gate.next(rt, self.router.number(), turn);
+        let chore = self.gate.next(rt, turn);
         write_down(&mut self.journal.chores, &chore);
         Ok(chore)
     }

@@ -8,8 +8,8 @@ use worker_loop::{Chore, Gate, ScriptGate};
 // The first two chores of a script that lists one for the second turn.
 fn first_two<R: Wait>(rt: &R, alloc: Global) -> Result<(Chore, Chore), AllocError> {
     let mut gate = ScriptGate::new(vec![in alloc; (1, Chore::Tick)]?);
-    let first = gate.next(rt, 1, 0);
-    let second = gate.next(rt, 1, 1);
+    let first = gate.next(rt, 0);
+    let second = gate.next(rt, 1);
     Ok((first, second))
 }
 
