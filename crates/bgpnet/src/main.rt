@@ -1,12 +1,12 @@
-//! `bgpnet`: decodes BGP-4 messages, says whether paths are a stable assignment, lists all that are, plays
-//! schedules of a network, and runs a network in threads.
+//! `bgpnet`: decodes BGP-4 messages, says whether paths are a stable assignment, lists all that are, looks for dispute
+//! wheels, plays schedules of a network, and runs a network in threads.
 //!
 //! The program reads its words and standard input and nothing else, and writes standard output. `main` hands them to
 //! [`command_line::run_with`], and ends with its status. On the standard error it says in words what a refusal means,
 //! and what failed, as [`error_words::said`] answers.
 //!
 //! Its contract is that of the task that the words ask for. `command_line::run_task` (`TaskPrints`) reads, answers and
-//! writes for `decode`, `check`, `stable`, `play`, `cut`, `why` and `trace`; `command_line::run_thread_task`
+//! writes for `decode`, `check`, `stable`, `safe`, `play`, `cut`, `why` and `trace`; `command_line::run_thread_task`
 //! (`ThreadsPrint`) does for `run` and `record`. Both cite the definitions in the `specs/` of the engines.
 #![tactic(auto)]
 

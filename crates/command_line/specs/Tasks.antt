@@ -8,6 +8,7 @@ use Rattle.play_engine.specs.Cutting.{Cuts, Whys}
 use Rattle.trace_engine.specs.Tracings.{Traces}
 use Rattle.run_engine.specs.Running.{LinesRun, Runs}
 use Rattle.record_engine.specs.Recording.{LinesRecord, Records}
+use Rattle.safe_engine.specs.Answers.{Judges}
 use Rattle.stable_engine.specs.Answers.{Lists}
 use Rattle.command_line.specs.declared.tasks.Task.{Task}
 use Rattle.command_line.specs.declared.tasks.Task.TheVariants as task
@@ -23,6 +24,7 @@ TaskPrints (task.Trace shows_octets) = Traces
 TaskPrints (task.Cut s) = Cuts s
 TaskPrints (task.Why u) = Whys u
 TaskPrints (task.Stable limits) = Lists limits
+TaskPrints task.Safe = Judges
 
 -- the text that a task of threads prints for the lines of a network
 abbrev pub LinesPrintBy : ThreadTask → List Text → Output → Type 0

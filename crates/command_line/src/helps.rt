@@ -169,6 +169,31 @@ Status 0: done. 1: a refused input. 2: other words than these. 3: memory was ref
 4: a read or a write failed. 5: done, and a prefix is unknown."
 );
 
+/// The help of `safe` below its options: an example, the lines, and the statuses.
+pub const SAFE_HELP: &str = three_routers!(
+    "; what stands behind a line 'assignment' or 'schedule' is left out",
+    "    rank 3 10.1.0.0/16 3-2-1 3-1
+
+Each of 2 and 3 would rather go through the other: a dispute wheel (Griffin, Shepherd and Wilfong 2002).
+The output is
+
+    prefix 10.1.0.0/16 wheel 2
+    rim 2-1 over 2-3-1
+    rim 3-1 over 3-2-1
+
+'safe': the prefix has no dispute wheel. One assignment of paths is stable, whichever links are up, and
+the routers come to no other. 'wheel K': it has one of K rims. 'rim': a router that has the first path
+likes the second better, which goes on by the first path of the next rim, the last by that of the first.
+A wheel does not say that the network never settles; 'bgpnet stable' lists in which routes it can.
+
+'prefix PREFIX unknown paths U': nothing is said of the prefix. Router U has no 'rank' line for it, and
+another router has one. 'refused LINE CODE' names the first line that can't be read; 'bgpnet --help' has
+the codes, and the lines of a network.
+
+Status 0: done. 1: a refused input. 2: other words than these. 3: memory was refused ('memory').
+4: a read or a write failed. 5: done, and a prefix is unknown."
+);
+
 /// The help of `play` below its options: an example, the orders, and the statuses.
 pub const PLAY_HELP: &str = two_routers_play!(
     ", a line 'schedule', and the orders of the schedule",

@@ -12,12 +12,13 @@ ghost use Rattle.std.specs.Prelude.{◌≡◌, true, false, ◌⊎◌, IfOk, IsE
 ghost use Rattle.text_engines.specs.declared.status.TheConstants.{STOPPED};
 
 mod helps;
+pub mod laws;
 mod tasks;
 mod words;
 
 pub use helps::{
-    CHECK_HELP, CUT_HELP, DECODE_HELP, PLAY_HELP, RECORD_HELP, RUN_HELP, STABLE_HELP, TOP_HELP,
-    TRACE_HELP, WHY_HELP,
+    CHECK_HELP, CUT_HELP, DECODE_HELP, PLAY_HELP, RECORD_HELP, RUN_HELP, SAFE_HELP, STABLE_HELP,
+    TOP_HELP, TRACE_HELP, WHY_HELP,
 };
 use std::alloc::{AllocError, Global};
 use std::sync::Wait;

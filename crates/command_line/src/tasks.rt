@@ -9,6 +9,7 @@ ghost use Rattle.command_line.specs.Tasks.{TaskPrints, LinesPrintBy, ThreadsPrin
 use bgp_codec::Rule;
 use net_text::read_network;
 use play_engine::Shown;
+use safe_engine::SafeEngine;
 use stable_engine::StableEngine;
 use stable_search::SearchLimits;
 use std::alloc::{AllocError, Global};
@@ -37,6 +38,8 @@ pub enum Task {
     Why(u32),
     /// List all stable assignments, as far as these limits of each dispute let it.
     Stable(SearchLimits),
+    /// Look for dispute wheels.
+    Safe,
 }
 
 /// A task of threads.
@@ -71,6 +74,7 @@ pub fn run_task<S: Source, T: Sink>(
         Task::Stable(limits) => {
             answer_input(alloc, &StableEngine { limits: &limits }, reader, writer)
         }
+        Task::Safe => answer_input(alloc, &SafeEngine, reader, writer),
     }
 }
 

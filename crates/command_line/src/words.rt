@@ -5,8 +5,8 @@ ghost use Rattle.std.specs.List.{list_all};
 ghost use Rattle.net_text.specs.Words.{is_digit};
 
 use crate::helps::{
-    CHECK_HELP, CUT_HELP, DECODE_HELP, PLAY_HELP, RECORD_HELP, RUN_HELP, STABLE_HELP, TOP_HELP,
-    TRACE_HELP, WHY_HELP,
+    CHECK_HELP, CUT_HELP, DECODE_HELP, PLAY_HELP, RECORD_HELP, RUN_HELP, SAFE_HELP, STABLE_HELP,
+    TOP_HELP, TRACE_HELP, WHY_HELP,
 };
 use crate::tasks::{Task, ThreadTask};
 use bgp_codec::{NOBODY, Rule};
@@ -223,6 +223,8 @@ fn threads_command<'a>(alloc: Global, word: Command<'a>) -> Result<Command<'a>, 
 fn command<'a>(alloc: Global) -> Result<Command<'a>, AllocError> {
     let about = "Says whether an assignment of paths is stable";
     let check = word_command(alloc, "check", about, CHECK_HELP);
+    let about = "Says whether a network has dispute wheels";
+    let safe = word_command(alloc, "safe", about, SAFE_HELP);
     let about = "Plays a schedule of a network's routers";
     let play = word_command(alloc, "play", about, PLAY_HELP);
     let about = "Runs a network in threads";
@@ -231,13 +233,14 @@ fn command<'a>(alloc: Global) -> Result<Command<'a>, AllocError> {
     let record = word_command(alloc, "record", about, RECORD_HELP);
     let about =
         "Decodes BGP-4 messages, says whether paths are a stable assignment, lists all that are, \
-        plays schedules, runs networks";
+        looks for dispute wheels, plays schedules, runs networks";
     word_command(alloc, "bgpnet", about, TOP_HELP)
         .version(VERSION)
         .subcommand_required(true)
         .subcommand(decode_command(alloc)?)?
         .subcommand(check)?
         .subcommand(stable_command(alloc)?)?
+        .subcommand(safe)?
         .subcommand(play)?
         .subcommand(trace_command(alloc)?)?
         .subcommand(cut_command(alloc)?)?
@@ -257,6 +260,7 @@ fn asked_by(alloc: Global, matches: &ArgMatches) -> Result<Asked, AllocError> {
     match word.as_bytes() {
         b"check" => Ok(Asked::Task(Task::Check)),
         b"stable" => Ok(Asked::Task(Task::Stable(search_limits(found)))),
+        b"safe" => Ok(Asked::Task(Task::Safe)),
         b"play" => Ok(Asked::Task(Task::Play)),
         b"trace" => Ok(Asked::Task(Task::Trace(found.get_flag("octets")))),
         b"cut" => asked_number(

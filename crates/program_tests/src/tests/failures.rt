@@ -17,7 +17,7 @@ struct Row {
     status: u8,
 }
 
-static ROWS: [Row; 6] = [
+static ROWS: [Row; 7] = [
     // A KEEPALIVE, and a message of a type that there is not.
     Row {
         words: &["decode"],
@@ -30,6 +30,12 @@ static ROWS: [Row; 6] = [
         words: &["check"],
         input: b"router 1 10.0.0.1\norigin 1 10.0.0.0/8\nassignment\npath 1 10.0.0.0/8 1\n",
         text: b"stable\n",
+        status: 0,
+    },
+    Row {
+        words: &["safe"],
+        input: b"router 1 10.0.0.1\norigin 1 10.0.0.0/8\n",
+        text: b"prefix 10.0.0.0/8 safe\n",
         status: 0,
     },
     Row {

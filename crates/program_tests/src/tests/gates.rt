@@ -10,7 +10,7 @@ mod through;
 use net_text::read_network;
 use net_workers::{Chore, Gate, Limits, ScriptGate, run_net};
 use prefix_lanes::Prefix;
-use ranked_policy::{Asn, Network};
+use ranked_policy::Network;
 use router_model::Command;
 use run_engine::run_gated;
 use std::alloc::{AllocError, Global};
@@ -88,13 +88,13 @@ impl Gate for HeldGate<'_> {
 
     ghost given = { λ g. given_by g.script ++ replicate g.stops Stop };
 
-    fn next<R: Wait>(&mut self, rt: &R, router: Asn, turn: u32) -> Chore {
+    fn next<R: Wait>(&mut self, rt: &R, turn: u32) -> Chore {
         self.own.store(u64::from(turn) + 1, Ordering::SeqCst);
         if self.stops > 0 || !self.is_met(turn) {
             self.stops += 1;
             return Chore::Stop;
         }
-        self.script.next(rt, router, turn)
+        self.script.next(rt, turn)
     }
 }
 

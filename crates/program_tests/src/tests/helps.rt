@@ -1,8 +1,8 @@
 //! The examples of the helps: what is printed for each is what the help says.
 
 use command_line::{
-    CHECK_HELP, CUT_HELP, DECODE_HELP, PLAY_HELP, RECORD_HELP, RUN_HELP, STABLE_HELP, WHY_HELP,
-    run_with,
+    CHECK_HELP, CUT_HELP, DECODE_HELP, PLAY_HELP, RECORD_HELP, RUN_HELP, SAFE_HELP, STABLE_HELP,
+    WHY_HELP, run_with,
 };
 use std::alloc::{AllocError, Global};
 use std::sync::Wait;
@@ -17,17 +17,18 @@ const PAIR: &str = "router 1 10.0.0.1\nrouter 2 10.0.0.2\nlink 1 2\norigin 1 10.
 const BOTH: &str = "route 1 10.1.0.0/16 1\nroute 2 10.1.0.0/16 2-1\n";
 
 // Words, their help, and the status for the example.
-static HELPS: [(&[&str], &str, u8); 6] = [
+static HELPS: [(&[&str], &str, u8); 7] = [
     (&["decode"], DECODE_HELP, 1),
     (&["check"], CHECK_HELP, 0),
     (&["stable"], STABLE_HELP, 0),
+    (&["safe"], SAFE_HELP, 0),
     (&["play"], PLAY_HELP, 0),
     (&["cut", "1"], CUT_HELP, 0),
     (&["why", "2"], WHY_HELP, 0),
 ];
 
 // How the lines of outputs begin, but for the line `router 2`, with which a line of an input begins too.
-static PRINTED: [&str; 15] = [
+static PRINTED: [&str; 16] = [
     "open ",
     "keepalive",
     "fault ",
@@ -41,6 +42,7 @@ static PRINTED: [&str; 15] = [
     "prefix ",
     "dispute ",
     "choice ",
+    "rim ",
     "  from ",
     "  told ",
 ];

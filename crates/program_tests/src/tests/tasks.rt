@@ -20,7 +20,7 @@ struct Row {
 }
 
 // All rows but the first read the same router, and each word writes what no other does.
-static ROWS: [Row; 7] = [
+static ROWS: [Row; 8] = [
     Row {
         words: &["decode", "--asn", "4"],
         input: "ffffffff ffffffff ffffffff ffffffff 0013 04",
@@ -37,6 +37,12 @@ static ROWS: [Row; 7] = [
         words: &["stable"],
         input: "router 1 10.0.0.1\norigin 1 10.0.0.0/8\n",
         text: "prefix 10.0.0.0/8 stable 1\nroute 1 10.0.0.0/8 1\n",
+        status: 0,
+    },
+    Row {
+        words: &["safe"],
+        input: "router 1 10.0.0.1\norigin 1 10.0.0.0/8\n",
+        text: "prefix 10.0.0.0/8 safe\n",
         status: 0,
     },
     Row {
