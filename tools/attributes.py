@@ -4,11 +4,11 @@ import struct
 
 from messages import FAMILIES, SUBSEQUENT, family_text
 
-ORIGIN, AS_PATH, NEXT_HOP, MP_REACH_NLRI, MP_UNREACH_NLRI = 1, 2, 3, 14, 15
+ORIGIN, AS_PATH, NEXT_HOP, MP_REACH_NLRI, MP_UNREACH_NLRI, AS4_PATH = 1, 2, 3, 14, 15, 17
 # The codes of IANA.
 NAMES = {ORIGIN: "ORIGIN", AS_PATH: "AS_PATH", NEXT_HOP: "NEXT_HOP", 4: "MULTI_EXIT_DISC", 5: "LOCAL_PREF",
          6: "ATOMIC_AGGREGATE", 7: "AGGREGATOR", 8: "COMMUNITIES", 9: "ORIGINATOR_ID", 10: "CLUSTER_LIST",
-         MP_REACH_NLRI: "MP_REACH_NLRI", MP_UNREACH_NLRI: "MP_UNREACH_NLRI", 16: "EXTENDED_COMMUNITIES", 17: "AS4_PATH",
+         MP_REACH_NLRI: "MP_REACH_NLRI", MP_UNREACH_NLRI: "MP_UNREACH_NLRI", 16: "EXTENDED_COMMUNITIES", AS4_PATH: "AS4_PATH",
          18: "AS4_AGGREGATOR", 22: "PMSI_TUNNEL", 23: "TUNNEL_ENCAPSULATION", 24: "TRAFFIC_ENGINEERING",
          25: "IPV6_EXTENDED_COMMUNITIES", 26: "AIGP", 27: "PE_DISTINGUISHER_LABELS", 29: "BGP-LS",
          32: "LARGE_COMMUNITY", 33: "BGPSEC_PATH", 35: "ONLY_TO_CUSTOMER", 37: "SFP", 38: "BFD_DISCRIMINATOR",
@@ -50,7 +50,34 @@ def remark_of(body, width, identified=()):
     if attributes.get(ORIGIN) == b"\0":
         said.add(ORIGIN)
     codes = sorted((code for code in attributes if code not in said), key=lambda code: code <= NEXT_HOP)
-    return ", ".join(attribute_text(code, attributes[code], width, identified) for code in codes) or None
+    said = [attribute_text(code, attributes[code], width, identified) for code in codes]
+    merged = merged_path(attributes) if width == 2 else None
+    return ", ".join(said + ([f"merged path {merged}"] if merged else [])) or None
+
+
+def merged_path(attributes):
+    """The path that AS_PATH and AS4_PATH say together (RFC 6793 section 4.2.3), None where there is no AS4_PATH, or it is
+    not used: it has more numbers than AS_PATH, or can't be read."""
+    try:
+        old, new = (segments_of(attributes[code], width) for code, width in ((AS_PATH, 2), (AS4_PATH, 4)))
+    except (KeyError, struct.error, IndexError, ValueError):
+        return None
+    more = length_of(old) - length_of(new)
+    if more < 0 or not new:
+        return None
+    leading = []
+    for kind, numbers in old:
+        if more <= 0:
+            break
+        kept = numbers[:more] if kind == 2 else numbers
+        leading.append((kind, kept))
+        more -= len(kept) if kind == 2 else 1
+    return segments_text(leading + new)
+
+
+def length_of(segments):
+    """How many numbers count in a path: a set counts as one (RFC 4271 section 9.1.2.2)."""
+    return sum(len(numbers) if kind == 2 else 1 for kind, numbers in segments)
 
 
 def family_of_end(attributes):
@@ -86,7 +113,7 @@ def value_text(code, value, width, identified):
     it."""
     if code == ORIGIN:
         return ORIGINS[value[0]]
-    if code in (AS_PATH, 17):
+    if code in (AS_PATH, AS4_PATH):
         return " " + path_text(value, width if code == AS_PATH else 4)
     if code in (NEXT_HOP, 9, 10):
         return "".join(f" {ipaddress.IPv4Address(part)}" for part in parts_of(value, 4))
@@ -114,15 +141,25 @@ def parts_of(value, size):
 
 def path_text(value, width):
     """A path as `decode` prints it."""
+    return segments_text(segments_of(value, width))
+
+
+def segments_of(value, width):
+    """The segments of a path, each its type (1 AS_SET, 2 AS_SEQUENCE) and its numbers."""
     segments, at = [], 0
     while at < len(value):
         kind, number = value[at], value[at + 1]
         numbers = [str(int.from_bytes(part, "big")) for part in parts_of(value[at + 2:at + 2 + number * width], width)]
         if kind not in (1, 2) or not number or len(numbers) < number:
             raise ValueError
-        segments.append("-".join(numbers) if kind == 2 else "{" + ",".join(numbers) + "}")
+        segments.append((kind, numbers))
         at += 2 + number * width
-    return "-".join(segments) or "none"
+    return segments
+
+
+def segments_text(segments):
+    return "-".join("-".join(numbers) if kind == 2 else "{" + ",".join(numbers) + "}"
+                    for kind, numbers in segments) or "none"
 
 
 def prefixes_text(code, value, identified):

@@ -31,20 +31,40 @@ def frames_of_records(data, order, unit, losses):
     if len(data) < 24:
         raise Refusal("the capture ends in its head")
     link = struct.unpack_from(order + "I", data, 20)[0] & 0xFFFF
-    at, number = 24, 0
+    at, number, short = 24, 0, Short(losses)
     while at < len(data):
         number += 1
         seconds, fraction, size = struct.unpack_from(order + "III", data, at) if at + 16 <= len(data) else (0, 0, 0)
         if at + 16 + size > len(data):
             losses.append(f"the capture ends in the middle of packet {number}")
+        elif at + 16 < len(data):
+            short.see(size, struct.unpack_from(order + "I", data, at + 12)[0])
         if at + 16 < len(data):
             yield link, data[at + 16:at + 16 + size], seconds * SECOND + fraction * unit
         at += 16 + size
+    short.tell()
+
+
+class Short:
+    """Packets of which less was kept than there was."""
+
+    def __init__(self, losses):
+        self.losses, self.number, self.most = losses, 0, 0
+
+    def see(self, kept, whole):
+        if kept < whole:
+            self.number, self.most = self.number + 1, max(self.most, kept)
+
+    def tell(self):
+        """Says how many there are."""
+        if self.number:
+            self.losses.append(f"{self.number} packet{'s' * (self.number > 1)} of the capture cut short, at {self.most} "
+                               "octets at most: capture whole ones (tcpdump -s 0)")
 
 
 def frames_of_blocks(data, losses):
     """Those of a pcapng file, whose blocks are in sections, each with its byte order and its interfaces."""
-    at, number, order, interfaces = 0, 0, "<", []
+    at, number, order, interfaces, short = 0, 0, "<", [], Short(losses)
     while at < len(data):
         number += 1
         if data[at:at + 4] == b"\x0a\x0d\x0d\x0a":
@@ -53,14 +73,20 @@ def frames_of_blocks(data, losses):
         kind, size = struct.unpack_from(order + "II", data, at) if at + 12 <= len(data) else (0, 12)
         if at + size > len(data):
             losses.append(f"the capture ends in the middle of block {number}")
-            return
+            break
         if size < 12 or size % 4:
             losses.append(f"block {number} has a size of {size}; what stands behind it is not read")
-            return
+            break
+        if kind in (2, 6) and size >= 32:
+            short.see(*struct.unpack_from(order + "II", data, at + 20))
+        elif kind == 3 and size >= 16 and interfaces and interfaces[0][1]:
+            whole = struct.unpack_from(order + "I", data, at + 8)[0]
+            short.see(min(whole, interfaces[0][1]), whole)
         frame = frame_of_block(order, kind, data[at + 8:at + size - 4], interfaces)
         if frame:
             yield frame
         at += size
+    short.tell()
 
 
 def frame_of_block(order, kind, body, interfaces):

@@ -5,8 +5,8 @@ MARKER = b"\xff" * 16
 HEAD = 19
 # The most octets of a message (RFC 8654).
 LONGEST = 65535
-OPEN, UPDATE, ROUTE_REFRESH = 1, 2, 5
-KINDS = {OPEN: "open", UPDATE: "update", 3: "notification", 4: "keepalive", ROUTE_REFRESH: "route-refresh"}
+OPEN, UPDATE, NOTIFICATION, ROUTE_REFRESH = 1, 2, 3, 5
+KINDS = {OPEN: "open", UPDATE: "update", NOTIFICATION: "notification", 4: "keepalive", ROUTE_REFRESH: "route-refresh"}
 # The head of a ROUTE-REFRESH as RFC 2918 has it; a longer one carries filters (RFC 5291).
 REFRESH_HEAD = MARKER + bytes([0, HEAD + 4, ROUTE_REFRESH])
 # Address families and subsequent ones, by the numbers of IANA.

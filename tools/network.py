@@ -88,17 +88,44 @@ def relations_of(lines):
             yield (int(one), int(other)), TURNED[relation]
 
 
+# How a comment says where a router stands in a picture, in steps to the right and down, and what it is called.
+PLACE = re.compile(r"# (\d+) at (-?\d+(?:\.\d+)?) (-?\d+(?:\.\d+)?)\s*")
+NAME = re.compile(r"# (\d+) called ([A-Za-z0-9_][A-Za-z0-9_.-]*)\s*")
+
+
+# How a comment says that a router keeps the routes of a peer that restarts, as FRR does by `bgp graceful-restart`.
+KEEPS = re.compile(r"# (\d+) keeps routes of peers that restart\s*")
+
+
+def places_of(lines):
+    """Where comments among the lines put routers in a picture."""
+    for line in lines:
+        found = PLACE.fullmatch(line)
+        if found:
+            yield int(found[1]), (float(found[2]), float(found[3]))
+
+
+def names_of(lines):
+    """What comments among the lines call routers."""
+    for line in lines:
+        found = NAME.fullmatch(line)
+        if found:
+            yield int(found[1]), found[2]
+
+
 class Network:
     """The routers, links, origins and rules of a network.
 
     `lines` are its lines without those that are skipped, `peers` the peers of each router, rising, `origins` the
     router of each prefix, by address, then length, `rules` those of each router, `cut` the most octets of a piece,
-    `hold` the hold time in seconds, `width` the octets of an AS number, and `relations` what the second of two routers
-    is to the first, as comments say it: "customer", "provider" or "peer"."""
+    `hold` the hold time in seconds, `width` the octets of an AS number. As comments say it, `relations` is what the
+    second of two routers is to the first: "customer", "provider" or "peer"; `places` is where routers stand in a
+    picture, `names` what they are called, and `keeping` those that keep the routes of a peer that restarts."""
 
     def __init__(self, lines):
         self.lines, self.routers, self.links, self.peers, self.rules = [], [], [], {}, {}
-        self.relations = dict(relations_of(lines))
+        self.relations, self.names = dict(relations_of(lines)), dict(names_of(lines))
+        self.keeping = [int(found[1]) for found in map(KEEPS.fullmatch, lines) if found]
         self.cut, self.hold, self.width, origins = 4096, 90, 2, {}
         for number, line in enumerate(lines, 1):
             words = words_of(line)
@@ -125,6 +152,7 @@ class Network:
             elif words[0] == "rank":
                 self.rules[first].append(Rule(Prefix.read(words[2]), [read_path(word) for word in words[3:]], number))
         self.routers.sort()
+        self.places = {router: place for router, place in places_of(lines) if router in self.peers}
         for peers in self.peers.values():
             peers.sort()
         self.origins = {prefix: origins[prefix] for prefix in sorted(origins)}
@@ -172,19 +200,32 @@ def routes_of(lines):
     return routes
 
 
+def read_router(network, word):
+    """The router that a word names, by its number, or as a comment calls it; None of nobody."""
+    if word.isascii() and word.isdigit():
+        return read_number(word) if read_number(word) in network.peers else None
+    named = [router for router, name in network.names.items() if name == word and router in network.peers]
+    return named[0] if len(named) == 1 else None
+
+
 def read_link(network, word):
-    """The link of a network that `U-V` names, as the network has it."""
-    ends = word.split("-")
-    if len(ends) == 2 and all(end.isascii() and end.isdigit() for end in ends):
-        link = tuple(map(read_number, ends))
-        for known in network.links:
-            if known in (link, link[::-1]):
-                return known
+    """The link of a network that `U-V` names, as the network has it. A name may have a dash in it."""
+    for at, letter in enumerate(word):
+        if letter == "-":
+            link = read_router(network, word[:at]), read_router(network, word[at + 1:])
+            for known in network.links:
+                if known in (link, link[::-1]):
+                    return known
     raise Refusal(f"there is no link {word}: a link is written as U-V")
 
 
 def link_text(link):
     return "-".join(map(str, link))
+
+
+def router_text(network, router):
+    """The number of a router, and what a comment calls it."""
+    return f"{router} {network.names[router]}" if router in network.names else str(router)
 
 
 def starts(network):

@@ -27,10 +27,12 @@ def chosen_prefix(network, word):
 
 class State:
     """The routes of every router, by router and prefix, the lines of the decided snapshots, the links, as sets of two
-    routers, whose session is not up, and those over which nothing came for some seconds."""
+    routers, whose session is not up, those over which nothing came for some seconds, and how many UPDATEs were told and
+    not heard, by prefix."""
 
-    def __init__(self, routes, snapshots, broken, silent):
+    def __init__(self, routes, snapshots, broken, silent, waiting):
         self.routes, self.snapshots, self.broken, self.silent = routes, snapshots, broken, silent
+        self.waiting = waiting
 
 
 def state_behind(program, text, name):
@@ -42,7 +44,7 @@ def state_behind(program, text, name):
         moment.pass_event(event)
     at = lines.index("now")
     snapshots = [line for line in lines[:at] if line.startswith("snapshot")]
-    return State(routes_of(lines[at + 1:]), snapshots, moment.broken, moment.silent)
+    return State(routes_of(lines[at + 1:]), snapshots, moment.broken, moment.silent, moment.waiting)
 
 
 def free_block(network):
@@ -114,6 +116,46 @@ def judgement(program, network, prefix, chosen, without=()):
     return f"check{' without ' * bool(links)}{links}: {lines[0]}", lines[0] == "stable"
 
 
+def renamed(network, router):
+    """Numbers of the routers by which a router is the least, and the others stand in the order in which they stood."""
+    above = [other for other in network.routers if other <= router]
+    new = dict(zip(above, above[1:] + above[:1]))
+    return {other: new.get(other, other) for other in network.routers}
+
+
+def renumbered(text, new):
+    """The input of `check` with other numbers of routers."""
+    def path_of(word):
+        return path_text(map(new.get, read_path(word)))
+
+    lines = []
+    for line in text.splitlines():
+        words = words_of(line)
+        if words[0] in ("router", "origin", "rank", "path", "link"):
+            words[1] = str(new[read_number(words[1])])
+        if words[0] == "link":
+            words[2] = str(new[read_number(words[2])])
+        elif words[0] in ("rank", "path"):
+            words[3:] = map(path_of, words[3:])
+        lines.append(" ".join(words))
+    return "".join(line + "\n" for line in lines)
+
+
+def moves(program, network, prefix, chosen, without, first):
+    """Each router that would move, with its path and its best one, where `check` names the least of them, `first`.
+    `check` is asked about each other one by itself: with the number of the least router it would be named first."""
+    found, text = [first], assignment_text(network, prefix, chosen, without)
+    for router in network.routers:
+        if router <= first[0]:
+            continue
+        new = renamed(network, router)
+        old = {number: own for own, number in new.items()}
+        words = program.answer(["check"], renumbered(text, new), "an assignment")[0].split()
+        if words[0] == "unstable" and old[int(words[1])] == router:
+            found.append((router, *(tuple(map(old.get, read_path(word))) for word in (words[3], words[5]))))
+    return found
+
+
 def reached(network, router, without=()):
     """The routers that links lead to from a router, itself too, over links that are not left out."""
     found = [router]
@@ -172,9 +214,21 @@ def judgements(program, network, routes, without=(), about="check", prefixes=Non
     return said
 
 
-def unstable_of(said):
-    """The router, its path and its best one where a judgement is not stable, else nothing."""
+def unstable_of(program, network, prefix, chosen, without, said):
+    """The routers that would move where a judgement is not stable, each with its path and its best one."""
     if not said or said[1] or ": unstable " not in said[0]:
-        return None
+        return []
     _, router, _, path, _, best = said[0].split(": ")[-1].split()
-    return int(router), read_path(path), read_path(best)
+    return moves(program, network, prefix, chosen, without, (int(router), read_path(path), read_path(best)))
+
+
+def captions_of(said, unstable, waiting):
+    """What is said below a picture: the judgement, if there is one, who would move too, and how many UPDATEs are on
+    their way. Where some are, nothing is at its end, so that a stable judgement is no good news."""
+    on_the_way = f"{waiting} UPDATE{'s' * (waiting > 1)} on {'their' if waiting > 1 else 'its'} way"
+    if not said:
+        return [(on_the_way, None)] * bool(waiting)
+    text, is_good = said
+    lines = [(text + f", and {on_the_way}" * bool(waiting), None if is_good and waiting else is_good)]
+    others = ", ".join(str(router) for router, _, _ in unstable[1:])
+    return lines + [(f"would move too: {others}", False)] * bool(others)

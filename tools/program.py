@@ -21,6 +21,28 @@ SAID = re.compile(r"^bgpnet: (?:line ([0-9]+): )?(.*)$", re.MULTILINE)
 class Refusal(Exception):
     """Why a tool does not do what it was asked for, in one line. The status is 1."""
 
+    @property
+    def lines(self):
+        """The reasons, each a line."""
+        return [str(self)]
+
+
+class Refusals(Refusal):
+    """Several reasons why a tool does not do what it was asked for."""
+
+    def __init__(self, reasons):
+        super().__init__("\n".join(line for why in reasons for line in why.lines))
+
+    @property
+    def lines(self):
+        return str(self).split("\n")
+
+
+def refuse_all(reasons):
+    """Refuses for all reasons, if there are any."""
+    if reasons:
+        raise reasons[0] if len(reasons) == 1 else Refusals(reasons)
+
 
 def built():
     """Where the built program stands, if no word names another."""
@@ -94,8 +116,8 @@ class Program:
         self.path = os.path.abspath(path)
 
     def run(self, words, text):
-        """The status, 0 or 1, or 5 of `stable`, and what the program prints for a text on the standard output and
-        error."""
+        """The status, 0 or 1, or 5 of `stable` and `safe`, and what the program prints for a text on the standard output
+        and error."""
         done = subprocess.run([self.path, *words], input=text.encode("latin-1"), capture_output=True)
         lines = done.stdout.decode("latin-1").splitlines()
         if done.returncode not in (0, 1, 5):
@@ -130,7 +152,7 @@ def run_tool(main):
     except KeyboardInterrupt:
         status = 130
     except Refusal as why:
-        print(f"{os.path.basename(sys.argv[0])}: {why}", file=sys.stderr)
+        print("".join(f"{os.path.basename(sys.argv[0])}: {line}\n" for line in why.lines), end="", file=sys.stderr)
         status = 1
     except OSError as why:
         print(f"{os.path.basename(sys.argv[0])}: {why.filename or 'standard streams'}: {why.strerror}", file=sys.stderr)

@@ -1,4 +1,4 @@
-"""The stable assignments of the paths that can come to routers, as `bgpnet stable` lists them."""
+"""What `bgpnet stable` and `bgpnet safe` say of the paths that can come to routers."""
 import itertools
 
 from live import GaveUp
@@ -66,3 +66,12 @@ def stable_assignments(program, paths, origin, most, free=()):
     none = {router: () for router in paths}
     found = [{**none, **chosen} for chosen in itertools.islice(answer.assignments(), most + 1)]
     return found, len(found) <= most
+
+
+def is_safe(program, paths, origin, free=()):
+    """Whether the paths that can come have no dispute wheel, as `bgpnet safe` says; None where it says nothing, since a
+    router of `free` has more paths than a rule."""
+    status, lines = program.ask(["safe"], network_text(paths, origin, free))
+    if status == 1:
+        raise Refusal(f"bgpnet safe: {lines[0]}")
+    return None if status else any(words_of(line)[2:] == ["safe"] for line in lines)

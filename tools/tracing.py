@@ -80,11 +80,12 @@ def events_of(lines, orders):
 
 class Moment:
     """What stands behind some events of a run: the path that each router keeps, by router and prefix; the ends of
-    sessions that are up, as router and peer; the snapshots that are decided; and for how many seconds nothing was taken
-    from a peer, by router and peer."""
+    sessions that are up, as router and peer; the snapshots that are decided; for how many seconds nothing was taken
+    from a peer, by router and peer; and the UPDATEs that were told and not heard, by teller, hearer and prefix."""
 
     def __init__(self, network):
         self.network, self.up, self.decided, self.silence, self.parts = network, set(), [], collections.Counter(), {}
+        self.told = collections.Counter()
         self.kept = {(router, prefix): () for router in network.routers for prefix in network.origins}
 
     def pass_event(self, event):
@@ -98,9 +99,31 @@ class Moment:
             if word == "keeps":
                 self.kept[event.router, Prefix.read(words[0])] = read_path(words[1].rstrip(","))
             elif word == "session":
-                (self.up.add if words[1] == "Established" else self.up.discard)((event.router, int(words[0])))
+                self.change(event.router, int(words[0]), words[1])
             elif word == "offers":
                 self.offer(int(words[1]), words[2:] == ["lost"])
+            elif word == "tells":
+                self.told[event.router, int(words[0]), Prefix.read(words[1])] += 1
+            elif word == "hears" and update_of(words):
+                self.hear(int(event.words[2]), event.router, Prefix.read(update_of(words)[0]))
+
+    def change(self, router, peer, state):
+        """A session comes to another state: what was told in it and not heard is lost."""
+        (self.up.add if state == "Established" else self.up.discard)((router, peer))
+        for key in [key for key in self.told if {router, peer} == {*key[:2]}]:
+            del self.told[key]
+
+    def hear(self, *key):
+        if self.told[key]:
+            self.told[key] -= 1
+
+    @property
+    def waiting(self):
+        """How many UPDATEs of each prefix were told and not heard."""
+        waiting = collections.Counter()
+        for (_, _, prefix), number in self.told.items():
+            waiting[prefix] += number
+        return waiting
 
     def offer(self, snapshot, is_lost):
         """A snapshot is decided at the first loss that is offered, or at the last router's part."""
@@ -155,9 +178,10 @@ class Replay:
 
     By keys it has the path that a router keeps, that a router last told a peer, and that it last heard from one; for
     each way of a link the UPDATEs that were told and not heard, the pieces in the pipe, and how many octets were taken
-    and not handled. A key that is not there is as it was at the first moment. What passes the links `closed` is not
-    looked at, but that something did (`is_touched`). Where another message than an UPDATE passes another link, or its
-    session changes, `is_known` is no longer true."""
+    and not handled. A key that is not there is as it was at the first moment. `is_touched` says that another thing than
+    an UPDATE passed since it was last set to false, or that a session changed: a moment that was marked before is none
+    to be compared with. What passes the links `closed` is not looked at, but that something did. Where what is heard is
+    not what was told, `is_known` is no longer true."""
 
     def __init__(self, width, closed=frozenset()):
         self.width, self.closed, self.is_known, self.is_touched = width, closed, True, False
@@ -188,11 +212,8 @@ class Replay:
         words = line.split()
         if words[1] in ("line", "round", "title:") or self.is_outside:
             return
-        if words[1] == "session" and frozenset((int(self.event[1]), int(words[2]))) in self.closed:
-            self.is_touched = True
-            return
         reader = {"tells": self.tells, "sends": self.sends, "takes": self.takes, "hears": self.hears,
-                  "keeps": self.keeps}.get(words[1])
+                  "keeps": self.keeps, "session": self.session}.get(words[1])
         if reader:
             reader(words[2:])
         else:
@@ -213,22 +234,36 @@ class Replay:
         way = "pipe", *self.ends(1, 2)
         pieces = self.now[way]
         self.set(*way, to=pieces[:-1] + (pieces[-1] + (" ".join(words),),))
-        if words[0] != "update" and words[1:] not in (["octets"], ["octet"]):
-            self.is_known = False
+        self.is_touched |= words[0] != "update" and not are_octets(words)
 
     def takes(self, words):
         way = self.ends(2, 1)
         pieces = self.now.get(("pipe", *way))
-        if not pieces or words[1:] not in (["octets"], ["octet"]):
+        if not pieces:
             self.is_known = False
             return
         self.set("pipe", *way, to=pieces[1:])
-        self.set("taken", *way, to=(self.now.get(("taken", *way)) or 0) + int(words[0]))
+        if are_octets(words):
+            self.set("taken", *way, to=(self.now.get(("taken", *way)) or 0) + int(words[0]))
+        else:
+            self.is_touched = True
+
+    def session(self, words):
+        """A session changes: what was said in it is nothing from here on."""
+        self.is_touched = True
+        own, peer = self.event[1], words[0]
+        if frozenset((int(own), int(peer))) not in self.closed:
+            for key in [key for key in self.now if key[:3] in (("told", own, peer), ("heard", peer, own))]:
+                self.set(*key, to=None)
 
     def hears(self, words):
         way = self.ends(2, 1)
         waiting, taken = self.now.get(("waiting", *way)), self.now.get(("taken", *way)) or 0
-        said = update_of(words)
+        said, other = update_of(words), octets_of_other(words, self.width)
+        if other and taken >= other:
+            self.is_touched = True
+            self.set("taken", *way, to=taken - other)
+            return
         if not waiting or said != waiting[0] or taken < octets_of(said, self.width):
             self.is_known = False
             return
@@ -238,6 +273,16 @@ class Replay:
 
     def keeps(self, words):
         self.set("kept", self.event[1], words[0], to=words[1].rstrip(","))
+
+
+def are_octets(words):
+    """Whether a piece, or what is left of one, is octets."""
+    return words[1:] in (["octets"], ["octet"])
+
+
+def octets_of_other(words, width):
+    """The octets of an OPEN or a KEEPALIVE of this program (RFC 4271 sections 4.2 and 4.4); 0 of what is neither."""
+    return {"open": 29 if width == 2 else 37, "keepalive": 19}.get(words[0], 0)
 
 
 def update_of(words):

@@ -37,8 +37,6 @@ REFUSED = {
     "nexthop": "a next hop of its own: whether it is reached is not known here",
     "match": "this match is not read",
     "set": "this set is not read",
-    "vrf": "a VRF: one instance of BGP is read",
-    "view": "a list of this family is not read",
     "sources": "access-lists of sources and destinations are not read",
     "undone": "a line that takes back others: leave those out",
     "port": "a port of its own: whether the other end listens there is not known here",
@@ -73,9 +71,9 @@ version    frr version WORD
 profile    frr defaults WORD
 addresses  interface WORD [vrf WORD]
 bgp        router bgp (1-4294967295)
-vrf        router bgp (1-4294967295) <view|vrf> WORD
+apart      router bgp (1-4294967295) <view|vrf> WORD
 again      router bgp
-vrf        vrf WORD
+apart      vrf WORD
 route_map  route-map WORD <permit|deny> (1-65535)
 access     access-list WORD [seq (1-4294967295)] <permit|deny> <any|A.B.C.D/M|A.B.C.D/M exact-match>
 access     access-list WORD [seq (1-4294967295)] <permit|deny> <A.B.C.D|host A.B.C.D|A.B.C.D A.B.C.D>
@@ -101,11 +99,11 @@ communities bgp large-community-list <(100-500)|expanded WORD> seq (0-4294967295
 old        ip <community-list|large-community-list|extcommunity-list|as-path> REST...
 graceful   bgp graceful-shutdown
 alias      bgp community alias WORD WORD
-extcommunity bgp extcommunity-list REST...
-view       ipv6 <prefix-list|access-list> WORD [seq (1-4294967295)] <permit|deny> any
-view       ipv6 <prefix-list WORD description|access-list WORD remark> REST...
-view       ipv6 <prefix-list|access-list> REST...
-view       mac access-list REST...
+apart      bgp extcommunity-list REST...
+apart      ipv6 <prefix-list|access-list> WORD [seq (1-4294967295)] <permit|deny> any
+apart      ipv6 <prefix-list WORD description|access-list WORD remark> REST...
+apart      ipv6 <prefix-list|access-list> REST...
+apart      mac access-list REST...
 undone     no <router|route-map|access-list|ip|bgp|ipv6|interface|vrf> REST...
 """
 
@@ -128,9 +126,12 @@ as-set     bgp bestpath as-path multipath-relax as-set
 ignored    no bgp bestpath as-path multipath-relax as-set
 ignored    [no] bgp bestpath <med confed|peer-type multipath-relax>
 ignored    bgp bestpath bandwidth <ignore|skip-missing|default-weight-for-missing>
-ignored    [no] bgp <log-neighbor-changes|suppress-duplicates|reject-as-sets|fast-external-failover>
+ignored    [no] bgp <log-neighbor-changes|reject-as-sets|fast-external-failover>
+duplicates [no] bgp suppress-duplicates
 ignored    [no] bgp <fast-convergence|suppress-fib-pending|allow-martian-nexthop|hard-administrative-reset>
-ignored    [no] bgp <disable-ebgp-connected-route-check|graceful-restart|graceful-restart-disable>
+ignored    [no] bgp <disable-ebgp-connected-route-check|graceful-restart-disable>
+kept       bgp graceful-restart
+ignored    no bgp graceful-restart
 ignored    [no] bgp <client-to-client reflection|route-reflector allow-outbound-policy>
 ignored    bgp graceful-restart <stalepath-time (1-4095)|restart-time (0-4095)|select-defer-time (0-3600)>
 ignored    bgp graceful-restart rib-stale-time (1-3600)
@@ -161,8 +162,8 @@ dampening  bgp dampening [REST...]
 family_ipv4 address-family ipv4
 family_ipv4 address-family ipv4 unicast
 family     address-family ipv4 <multicast|vpn|labeled-unicast|flowspec>
-ipv6       address-family ipv6 [<unicast|multicast|vpn|labeled-unicast|flowspec>]
-family     address-family l2vpn evpn
+apart      address-family ipv6 [<unicast|multicast|vpn|labeled-unicast|flowspec>]
+apart      address-family l2vpn evpn
 family     <segment-routing|vnc|vrf-policy|rfp> REST...
 """
 
@@ -182,13 +183,17 @@ loop_detection [no] PEER sender-as-path-loop-detection
 ignored    PEER description REST...
 ignored    [no] PEER <capability dynamic|capability extended-nexthop|strict-capability-match|override-capability>
 ignored    [no] PEER <disable-connected-check|enforce-multihop|solo|enforce-first-as|extended-optional-parameters>
-ignored    [no] PEER <graceful-restart|graceful-restart-disable|graceful-restart-helper|disable-link-bw-encoding-ieee>
+kept       PEER graceful-restart
+ignored    no PEER graceful-restart
+ignored    [no] PEER <graceful-restart-disable|graceful-restart-helper|disable-link-bw-encoding-ieee>
 hops       PEER ebgp-multihop [(1-255)]
 hops       PEER ttl-security hops (1-254)
-ignored    PEER <tcp-mss (1-65535)|advertisement-interval (0-600)>
+ignored    PEER tcp-mss (1-65535)
+interval   PEER advertisement-interval (0-600)
 ignored    PEER timers <(0-65535) 0|(0-65535) (3-65535)|connect (1-65535)|delayopen (1-240)>
 hops       no PEER <ebgp-multihop [(1-255)]|ttl-security hops (1-254)>
-ignored    no PEER <description [REST...]|tcp-mss [(1-65535)]|advertisement-interval [(0-600)]|port [(0-65535)]>
+interval   no PEER advertisement-interval [(0-600)]
+ignored    no PEER <description [REST...]|tcp-mss [(1-65535)]|port [(0-65535)]>
 ignored    no PEER timers [<(0-65535) (0-65535)|connect|connect (1-65535)|delayopen|delayopen (0-65535)>]
 ignored    no PEER <local-as|maximum-prefix|maximum-prefix-out|local-role> [REST...]
 warned     PEER bfd [<check-control-plane-failure|profile WORD>]

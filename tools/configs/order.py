@@ -1,9 +1,9 @@
 """The order of a router's ways: the decision process of FRR."""
 from itertools import permutations
 
-from configs.places import refusal
-from configs.route import MOST
-from network import MOST_PATHS, path_text
+from configs.pairs import in_order, refuse_circle, shortest_circle
+from configs.routes import MOST
+from network import MOST_PATHS
 
 
 def coarse_key(router, way):
@@ -114,7 +114,7 @@ class Order:
         if peer is None:
             return 0, 0, way.path
         end = self.set.ends[self.router.asn][peer]
-        return self.set.routers[peer].router_id.name, end.neighbor.address, way.path
+        return self.set.id_of(peer, self.router.asn), end.neighbor.address, way.path
 
     def beats(self, one, other):
         """Whether one way of a group stands above another by its metric: 1, -1, or 0 where that says nothing."""
@@ -166,41 +166,35 @@ class Order:
             if judged < 0 or not judged and is_other and \
                     self.last_key(kinds[other][0]) < self.last_key(kinds[one][0]):
                 above[one].add(other)
-        found, left = {}, dict.fromkeys(kinds)
-        while left:
-            free = next((kind for kind in left if not any(other in left for other in above[kind])), None)
-            if free is None:
-                self.refuse_circle(left, above, kinds)
-            del left[free]
-            found[free] = kinds[free]
+        found, left = in_order(kinds, above)
+        if left:
+            paths = [kinds[kind][0].path for kind in shortest_circle(left, above)]
+            place = self.set.ends[self.router.asn][paths[0][1]].neighbor.place
+            refuse_circle(place, f"{self.router.asn} {self.prefix}", paths,
+                          "MED is compared only where the paths begin with the same AS")
+        found = {kind: kinds[kind] for kind in found}
         tie = Tie(found, by_metric)
         if tie.tied():
             self.note_tie(tie)
         return [way for ways in found.values() for way in ways]
 
-    def refuse_circle(self, left, above, kinds):
-        """The shortest circle of paths, each better than the next."""
-        best = None
-        for start in left:
-            before, queue = {start: None}, [start]
-            for kind in queue:
-                for better in sorted(above[kind].intersection(left)):
-                    if better == start:
-                        circle = [kind]
-                        while before[circle[-1]] is not None:
-                            circle.append(before[circle[-1]])
-                        best = circle if best is None or len(circle) < len(best) else best
-                        queue = []
-                        break
-                    if better not in before:
-                        before[better] = kind
-                        queue.append(better)
-                if not queue:
-                    break
-            if best and len(best) == 3:
-                break
-        paths = [kinds[kind][0].path for kind in best]
-        said = " over ".join(path_text(path) for path in paths + paths[:1])
-        end = self.set.ends[self.router.asn][paths[0][1]]
-        raise refusal(end.neighbor.place, f"{self.router.asn} {self.prefix}: no order: {said}: MED is compared only "
-                                          "where the paths begin with the same AS")
+
+def may_keep(routers, prefix, asn, ways, kept):
+    """Whether a router may stay with a way: none of its ways is better, the router id left aside.
+
+    A better metric may be passed over: FRR compares one route after the other, so that one whose metric is not
+    compared may come between."""
+    router = routers.routers[asn]
+    if router.option("bgp bestpath compare-routerid"):
+        return Order(routers, prefix, asn, ways).ways[0] is kept
+    key, order = coarse_key(router, kept), Order(routers, prefix, asn, [])
+    if any(coarse_key(router, way) < key for way in ways):
+        return False
+    ways = [way for way in ways if coarse_key(router, way) == key]
+    above = [way for way in ways if order.beats(way, kept) > 0]
+    if not above:
+        return True
+    first = min(above, key=lambda way: (metric(router, way.route), order.last_key(way)))
+    return not router.option("bgp deterministic-med") and any(
+        order.last_key(way) < order.last_key(first) and not compares_metric(router, way.route, first.route)
+        for way in ways)

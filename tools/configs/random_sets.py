@@ -1,67 +1,19 @@
 """Makes random sets of configurations, the same for the same seed: 3 to 10 routers, with every construct that is read,
 and gadgets whose ends are several or none."""
-import random
+from configs import random_networks
+from configs.random_networks import PREFIXES
 
-PREFIXES = ("10.1.0.0/16", "10.1.1.0/24", "10.2.0.0/16", "192.168.7.0/24", "172.16.0.0/12", "10.1.128.0/17")
 WELL_KNOWN = ("no-export", "no-advertise", "local-AS", "graceful-shutdown", "blackhole", "no-peer")
 REGULAR = ("^$", "_{0}_", "^{0}_", "_{0}$", "{0}", "^[0-9]+$", "^{0}$", ".*", "_{0}_{1}_", "^({0}|{1})_", "^.* .* ",
            "[{2}]$", "^{0} {1}", "{0}.*{1}", "_{0}_|_{1}_", "^_{0}_", "{2}?{2}$", "^(_[0-9]+)+$", "( [0-9]+){1,2}$",
            "({2}|{0})+_")
 
 
-class Draw:
-    """Random choices by `random()` alone, which is the same in every Python."""
-
-    def __init__(self, seed):
-        self.random = random.Random(seed).random
-
-    def number(self, least, most):
-        return least + int(self.random() * (most - least + 1))
-
-    def of(self, among):
-        return among[int(self.random() * len(among))]
-
-    def chance(self, part):
-        return self.random() < part
-
-    def some(self, among, count):
-        left, found = list(among), []
-        while left and len(found) < count:
-            found.append(left.pop(int(self.random() * len(left))))
-        return found
-
-
-class Maker:
+class Maker(random_networks.Maker):
     """Makes one set."""
 
-    def __init__(self, seed):
-        self.draw = draw = Draw(seed)
-        count = draw.number(3, 10)
-        base = draw.of((0, 64512, 65000, 4200000000 if draw.chance(0.3) else 65000))
-        self.asns = [base + place for place in range(1, count + 1)]
-        self.gadget = draw.of(("disagree", "bad", "good", "wedgie")) if count >= 4 and draw.chance(0.2) else None
-        self.links = self.make_links(count)
-        self.prefixes = draw.some(PREFIXES, draw.number(1, 2) if self.gadget else draw.number(1, 4))
-        self.origins = {prefix: 0 if self.gadget else draw.number(0, count - 1) for prefix in self.prefixes}
-        self.texts = {}
-        for place in range(count):
-            self.texts[f"r{place + 1}.conf"] = Text(self, place).text()
-
-    def make_links(self, count):
-        draw = self.draw
-        links = {(draw.number(0, place - 1), place) for place in range(1, count)}
-        for _ in range(draw.number(0, count)):
-            one, other = sorted((draw.number(0, count - 1), draw.number(0, count - 1)))
-            if one != other:
-                links.add((one, other))
-        if self.gadget:
-            links |= {"disagree": {(0, 1), (0, 2), (1, 2)}, "wedgie": {(0, 1), (0, 3), (1, 2), (2, 3)},
-                      "bad": {(0, 1), (0, 2), (0, 3), (1, 2), (2, 3), (1, 3)},
-                      "good": {(0, 1), (0, 2), (0, 3), (1, 2), (2, 3), (1, 3)}}[self.gadget]
-        return sorted(links)
-
-    def peers(self, place):
-        return [two if one == place else one for one, two in self.links if place in (one, two)]
+    def text_of(self, place):
+        return Text(self, place).text()
 
 
 class Text:
@@ -352,7 +304,8 @@ class Text:
 
     def option_lines(self):
         draw = self.draw
-        lines = [f"bgp router-id {self.router_id()}"] + ["no bgp default ipv4-unicast"] * self.says_families
+        lines = [f"bgp router-id {self.maker.router_id(self.place)}"]
+        lines += ["no bgp default ipv4-unicast"] * self.says_families
         if draw.chance(0.92) or self.maker.gadget:
             lines.append("no bgp ebgp-requires-policy")
         for line, part in (("bgp always-compare-med", 0.15), ("bgp deterministic-med", 0.15),
@@ -363,12 +316,6 @@ class Text:
             if draw.chance(part) and not (self.maker.gadget and "as-path ignore" in line):
                 lines.append(line)
         return lines
-
-    def router_id(self):
-        draw = self.draw
-        if not hasattr(self.maker, "ids"):
-            self.maker.ids = draw.some(range(1, 200), len(self.maker.asns)) if draw.chance(0.5) else None
-        return f"1.0.0.{self.maker.ids[self.place]}" if self.maker.ids else f"10.255.{self.place + 1}.1"
 
     def network_lines(self):
         draw, lines = self.draw, []

@@ -1,5 +1,4 @@
 """The rank lines of a set of configurations, and its network as a text."""
-from configs.order import Order
 from configs.places import refusal
 from configs.sessions import dotted
 from configs.ways import Follower
@@ -33,7 +32,8 @@ class Ranks:
             ways = self.follower.ways(prefix, router, network)
             self.origins[prefix] = router.asn
             if id(ways) not in known:
-                known[id(ways)] = {asn: Order(routers, prefix, asn, found) for asn, found in ways.items()}
+                known[id(ways)] = {asn: routers.routers[asn].order(routers, prefix, found)
+                                    for asn, found in ways.items()}
             self.orders[prefix] = known[id(ways)]
         for prefix in chosen or ():
             if prefix not in self.origins:
@@ -174,6 +174,8 @@ def network_lines(ranks, most=None):
     """The lines of the network, and what is to be said of paths that are left out."""
     routers, said = ranks.set.routers, []
     lines = ["asn 4"] if max(routers) > GREATEST_OF_TWO_OCTETS else []
+    lines += [f"# {asn} called {router.host}" for asn, router in routers.items() if router.host]
+    lines += [f"# {asn} keeps routes of peers that restart" for asn, router in routers.items() if router.keeps_routes]
     lines += [f"router {asn} {dotted(router.router_id.name)}" for asn, router in routers.items()]
     lines += [f"link {asn} {peer}" for asn, ends in ranks.set.ends.items() for peer in sorted(ends) if asn < peer]
     lines += [f"origin {asn} {prefix}" for prefix, asn in ranks.origins.items()]

@@ -6,15 +6,18 @@ from configs.communities import STALE, read_community, read_large, sorted_set
 from configs.lists import Block, CommunityList, Entry, List, mask_of
 from configs.places import Place, refusal
 from configs.regular import BadExpression, expression, path_expression
-from configs.route import MOST, ORIGINS, RouteMap
+from configs.route import RouteMap
+from configs.routes import MOST, ORIGINS
 from configs.router import SENT, Line, Neighbor, Network, Router
 from configs.syntax import Unreadable, address_of, number_of, prefix_of
 from network import GREATEST_ASN, Prefix
+from program import Refusal, refuse_all
 
 NOT_TAKEN = "FRR 8.4 does not take this line"
 LARGE_WORDS = {"large-community": read_large, "community": read_community}
 # What `show running-config` prints above a configuration.
 PRINTED_ABOVE = "", "Building configuration...", "Current configuration:"
+READ = 8, 4  # the version whose language this is
 MOST_CALLS, MOST_PASSWORD, MOST_HOPS, MOST_HOST = 10, 80, 255, 255
 
 
@@ -29,20 +32,80 @@ def form_of(text):
     return text if text == "any" else "prefix" if isinstance(text, tuple) or "/" in text else len(text.split())
 
 
+# What never stands inside an address family.
+OUTSIDE = ("router", "address-family", "route-map", "interface", "end")
+
+
+def indent_of(line):
+    return len(line) - len(line.lstrip())
+
+
+class Passed(Exception):
+    """A line is passed over, since what it is of was refused, or passed over, with a word of its own."""
+
+
 class Reader:
-    """Obeys the lines of one file."""
+    """Obeys the lines of one file. `refused` has what is refused of them, by line; what hangs on a refused line is not
+    refused by itself."""
 
     def __init__(self, text, name):
         self.router, self.block, self.place = Router(name), "config", Place(name, 0)
-        self.entry, self.foreign, self.is_loopback = None, None, False
+        self.entry, self.foreign, self.is_loopback, self.indent = None, None, False, None
+        self.refused, self.of_maps, self.lost, self.sixth = [], {}, set(), {}
         is_above = True
         for number, line in cut_lines(text):
             is_above = is_above and line.strip() in PRINTED_ABOVE
             self.place = Place(name, number)
             if not is_above:
-                self.obey(line)
+                self.try_to_obey(line)
+        self.judge_sixth()
+        self.judge_maps()
 
     # ---- lines and blocks
+
+    def try_to_obey(self, line):
+        """Obeys a line, or keeps why it is refused."""
+        try:
+            self.obey(line)
+        except Passed:
+            pass
+        except Refusal as why:
+            self.refused.append(why)
+            words = line.split()
+            if words[0] == "neighbor" and len(words) > 2 and ("remote-as" in words or "peer-group" in words):
+                self.lost.add(words[1])
+            elif words[0] in ("address-family", "router", "vrf", "route-map"):
+                self.pass_block("family" if words[0] == "address-family" else "other")
+                self.lost.add(" ".join(words[:2]))
+
+    def pass_block(self, kind):
+        """Passes over what stands below a line."""
+        self.foreign, self.indent = kind, None
+
+    def judge_sixth(self):
+        """Passes neighbors of IPv6 over that carry no IPv4 routes."""
+        for key, (place, is_active) in self.sixth.items():
+            if is_active:
+                self.refused.append(refusal(place, f"neighbor {key}: {commands.REFUSED['ipv6']}, and it carries them "
+                                                   "unless 'no neighbor .. activate' stands in their family"))
+            else:
+                self.router.warn(place, f"neighbor {key}: a session of IPv6 that carries no IPv4 routes is passed over")
+
+    def judge_maps(self):
+        """Refuses what is not read in route-maps that are used, and warns of it in others."""
+        used, router = [], self.router
+        for neighbor in [*router.groups.values(), *router.neighbors.values()]:
+            used += [line.name for (kind, _), line in neighbor.policies.items() if kind == "route-map"]
+        used += [network.map_name for network in router.networks.values() if network.map_name]
+        for name in used:
+            entries = router.maps[name].ordered() if name in router.maps else []
+            used += [entry.call.name for entry in entries if entry.call and entry.call.name not in used]
+        for name, reasons in self.of_maps.items():
+            for place, why in reasons:
+                if name in used:
+                    self.refused.append(refusal(place, why))
+                else:
+                    router.warn(place, f"{why}; no IPv4 route goes by route-map {name}, so it is passed over")
 
     def refuse(self, why):
         raise refusal(self.place, why)
@@ -77,6 +140,10 @@ class Reader:
         if words[0] in ("exit", "quit") or words[0].startswith("exit-"):
             self.foreign = "closed"
             return True
+        if self.foreign == "family":
+            # FRR prints the end of a family; a line further out than the first one in it ends it too.
+            self.indent = indent_of(line) if self.indent is None else self.indent
+            return words[0] not in OUTSIDE and indent_of(line) >= self.indent
         return self.foreign != "closed" and line[:1] in (" ", "\t")
 
     def find(self, words):
@@ -98,6 +165,9 @@ class Reader:
         action, words = match.command.action, match.words
         if action in ("foreign", "addresses", "warned", "ignored") and self.block == "config":
             self.router.foreign.add(self.place.line)
+        if match.command.why and self.block == "route-map" and action != "undone":
+            self.of_maps.setdefault(self.entry.map_name, []).append((self.place, f"'{line.strip()}': {match.command.why}"))
+            return
         if match.command.why:
             self.refuse(f"'{line.strip()}': {match.command.why}")
         if action == "ignored":
@@ -132,12 +202,21 @@ class Reader:
         self.refuse(f"'{line.strip()}': {NOT_TAKEN}: it is 'bgp {' '.join(words[1:3])} ..'")
 
     def do_foreign(self, words, line):
-        self.foreign = "other"
+        self.pass_block("other")
+
+    def do_apart(self, words, line):
+        """A block on which no IPv4 route of this instance depends."""
+        self.router.warn(self.place, f"'{line.strip()}' is passed over: no IPv4 route of this instance goes by it")
+        self.pass_block("family" if words[0] == "address-family" else "other")
+        if self.block == "config":
+            self.router.foreign.add(self.place.line)
 
     def do_addresses(self, words, line):
         self.foreign, self.is_loopback = "interface", words[1] == "lo"
 
     def do_host(self, words, line):
+        if words[0] == "hostname":
+            self.router.host = words[1]
         if not words[1][0].isalnum() or len(words[1]) > MOST_HOST:
             self.refuse(f"'{line.strip()}': {NOT_TAKEN}: a name begins with a letter or a digit, and has at most "
                         f"{MOST_HOST} signs")
@@ -149,6 +228,8 @@ class Reader:
         if not found:
             self.refuse(f"'{words[2]}' is no version")
         major, minor, more, tail = found.groups()
+        if (int(major), int(minor or 0)) > READ:
+            self.router.warn(self.place, f"the version is {words[2]}: what is read here is the language of FRR 8.4")
         is_before = not more and (tail or "").startswith("~")
         self.router.version = int(major), int(minor or 0), -1 if is_before else 0
 
@@ -232,6 +313,8 @@ class Reader:
         """The neighbor, or the group, of an address or a name."""
         address = address_of(key)
         found = self.router.groups.get(key) if address is None else self.router.neighbors.get(address)
+        if found is None and (key in self.lost or key in self.sixth):
+            raise Passed
         if found is None:
             self.refuse(f"neighbor {key}: {NOT_TAKEN}: no line above says its AS, or that it is a group")
         return found
@@ -241,7 +324,8 @@ class Reader:
         if asn == "internal" or asn.isdigit() and int(asn) == router.asn:
             self.refuse(f"neighbor {key} remote-as {asn}: {commands.REFUSED['ibgp']}")
         if ":" in key:
-            self.refuse(f"neighbor {key}: {commands.REFUSED['ipv6']}")
+            self.sixth.setdefault(key, (self.place, router.activates))
+            return
         remote, address = Line(asn if asn == "external" else int(asn), self.place), address_of(key)
         if address is None:
             if key not in router.groups:
@@ -264,6 +348,12 @@ class Reader:
     def do_member(self, words, line):
         router, address = self.router, address_of(words[1])
         group = router.groups.get(words[3])
+        if ":" in words[1] and (group or words[3] in self.lost):
+            self.sixth.setdefault(words[1], (self.place, bool(group and group.is_active)))
+            return
+        if group is None and words[3] in self.lost:
+            self.lost.add(words[1])
+            return
         if group is None:
             self.refuse(f"'{line.strip()}': {NOT_TAKEN}: no line above makes the group")
         if address is None:
@@ -310,6 +400,24 @@ class Reader:
         if other:
             self.refuse(f"'{line.strip()}': {NOT_TAKEN}: {other.place} has ebgp-multihop")
 
+    def do_interval(self, words, line):
+        self.say(words, "interval", int(words[3]) if words[0] != "no" else None)
+        if words[0] != "no" and int(words[3]):
+            self.router.warn(self.place, f"'{line.strip()}': UPDATEs wait up to {words[3]} seconds, which changes no end, "
+                                         "and may change which of several ends comes")
+
+    def do_kept(self, words, line):
+        """Routes that outlast a restart."""
+        self.named_neighbor(words)
+        self.router.keeps_routes = True
+        self.router.warn(self.place, f"'{line.strip()}': a peer's routes are kept while it restarts, 120 seconds if it "
+                                     "says nothing else: what is said here of a crash and of a silent failure is not "
+                                     "what FRR does meanwhile")
+
+    def do_duplicates(self, words, line):
+        """Duplicates that are suppressed, as FRR does by itself."""
+        self.router.suppresses = Line(words[0] != "no", self.place)
+
     def do_passive(self, words, line):
         self.say(words, "passive", True)
 
@@ -324,7 +432,11 @@ class Reader:
 
     def do_activate(self, words, line):
         is_active = words[0] != "no"
-        found = self.neighbor(words[1 + (not is_active)])
+        key = words[1 + (not is_active)]
+        if key in self.sixth:
+            self.sixth[key] = self.sixth[key][0], is_active
+            return
+        found = self.neighbor(key)
         found.is_active = is_active
         if found.address is None:
             for member in self.router.neighbors.values():
@@ -665,10 +777,13 @@ def choose_id(router):
 
 
 def read_router(text, name):
-    """The router that a file is the configuration of."""
-    router = Reader(text, name).router
-    if router.asn is None:
+    """The router that a file is the configuration of. All that is refused of the file is told, first what no line of
+    another form could say."""
+    reader = Reader(text, name)
+    router, refused = reader.router, sorted(reader.refused, key=lambda why: (OF_ITS_OWN not in str(why), line_of(why)))
+    if router.asn is None and not refused:
         raise refusal(Place(name, 1), "no configuration of a router: there is no line 'router bgp'")
+    refuse_all(refused)
     if router.router_id is None:
         choose_id(router)
     for network in router.networks.values():
@@ -681,3 +796,13 @@ def read_router(text, name):
     undefined(router)
     without_entries(router)
     return router
+
+
+# What is said of a line that asks for two routers of one AS.
+OF_ITS_OWN = "an AS of its own"
+
+
+def line_of(why):
+    """The line that a refusal is of."""
+    found = re.match(r".*?:(\d+): ", str(why))
+    return int(found[1]) if found else 0

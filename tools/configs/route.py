@@ -1,53 +1,16 @@
-"""A route with its attributes, and what a router's policy makes of it."""
-from collections import namedtuple
+"""What the policy of a router of FRR makes of a route."""
 from functools import lru_cache
 
 from configs.communities import BLACKHOLE, KEPT_IN, NO_EXPORT, SHUTDOWN, community_text, sorted_set
 from configs.lists import block_fits, path_fits
+from configs.routes import MOST, ORIGINS, Denial, Route
 
-MOST = 2**32 - 1
 OWN_WEIGHT = 32768
-ORIGINS = ("igp", "egp", "incomplete")
-
-# Why a route is not taken or not told, and by what line.
-Denial = namedtuple("Denial", "place why")
 
 
 @lru_cache(maxsize=65536)
 def path_as_text(path):
     return " ".join(map(str, path))
-
-
-class Route:
-    """A route in a router's table, or on its way to one.
-
-    LOCAL_PREF and MULTI_EXIT_DISC have a field and a flag each, as in FRR: without the flag the attribute is not there,
-    and the field is still seen by `match`. `notes` has by what lines each attribute came, where that is asked for, and
-    by which a number was excluded."""
-
-    __slots__ = ("path", "origin", "med", "has_med", "preference", "has_preference", "weight", "communities", "large",
-                 "notes")
-
-    def __init__(self, path=(), origin=0, med=0, has_med=False, preference=0, has_preference=False, weight=0,
-                 communities=(), large=(), notes=None):
-        self.path, self.origin, self.med, self.has_med = path, origin, med, has_med
-        self.preference, self.has_preference, self.weight = preference, has_preference, weight
-        self.communities, self.large, self.notes = communities, large, notes
-
-    def copy(self):
-        return Route(self.path, self.origin, self.med, self.has_med, self.preference, self.has_preference, self.weight,
-                     self.communities, self.large, None if self.notes is None else dict(self.notes))
-
-    def note(self, attribute, said=None, adds=False):
-        """Keeps by what line an attribute came, or what other line changed it; without one it came by none."""
-        if self.notes is not None:
-            former = self.notes.get(attribute, ()) if adds else ()
-            self.notes[attribute] = former + (str(said),) * (said is not None)
-
-    def attributes(self):
-        """What tells routes of one way apart: all that a table shows."""
-        return (self.path, self.origin, self.med if self.has_med else None,
-                self.preference if self.has_preference else None, self.weight, self.communities, self.large)
 
 
 # ---- route-maps
@@ -319,6 +282,7 @@ def heard(router, neighbor, prefix, route):
     """The route that comes into a router's table of one that a neighbor tells, which it changes; or why none comes."""
     if router.asn in route.path:
         return Denial(neighbor.place, f"AS {router.asn} stands in the path")
+    route.preference, route.has_preference = 0, False
     denial = filtered(router, neighbor, "in", prefix, route.path) or without_policy(router, neighbor, "in")
     if denial:
         return denial

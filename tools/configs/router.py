@@ -1,6 +1,11 @@
 """A router as its configuration says: its neighbors, networks, lists, route-maps and options."""
 from collections import namedtuple
 
+from configs import order, route
+from configs.communities import community_text, large_text
+from configs.routes import ORIGINS
+from configs.speaker import Speaker
+
 # A line that names something, or sets a value.
 Line = namedtuple("Line", "name place")
 # A network that a router originates, with the default of local preference that stood above its line.
@@ -50,20 +55,20 @@ class Neighbor:
         return self.value("shutdown", False)
 
 
-class Router:
-    """What one file says. `notes` are its warnings, each with its place; `addresses` those of its interfaces,
-    `loopbacks` those of `lo`; `foreign` the numbers of lines that other daemons take, and `end` that of its line
-    `end`."""
+class Router(Speaker):
+    """What a file in the language of FRR says. `loopbacks` are the addresses of `lo`; `suppresses` is what a line says of
+    duplicates, and `keeps_routes` whether it keeps the routes of a peer that restarts."""
+
+    language = "FRR"
 
     def __init__(self, name):
-        self.name, self.notes, self.end = name, [], None
+        super().__init__(name)
         self.version, self.profile = (8, 4, 0), "traditional"
-        self.asn, self.place, self.router_id = None, None, None
-        self.neighbors, self.groups, self.networks = {}, {}, {}
+        self.groups, self.blocks = {}, None
         self.lists = {"access-list": {}, "prefix-list": {}, "as-path": {}, "community": {}, "large-community": {}}
-        self.maps, self.addresses, self.loopbacks, self.foreign = {}, {}, set(), set()
+        self.maps, self.loopbacks = {}, set()
         self.default_preference, self.default_line, self.activates = 100, None, True
-        self.options = {}
+        self.options, self.suppresses, self.keeps_routes = {}, None, False
 
     def option(self, name):
         line = self.options.get(name)
@@ -73,7 +78,48 @@ class Router:
     def requires_policy(self):
         return self.option("bgp ebgp-requires-policy")
 
-    def warn(self, place, said):
-        note = (place, said)
-        if note not in self.notes:
-            self.notes.append(note)
+    # ---- what a set asks
+
+    def own_route(self, network, notes=None):
+        return route.own_route(self, network, notes)
+
+    def told(self, neighbor, far, prefix, way):
+        return route.told(self, neighbor, prefix, way.route, len(way.path) == 1)
+
+    def heard(self, neighbor, far, prefix, told):
+        return route.heard(self, neighbor, prefix, told)
+
+    def announced(self, network):
+        return network.map_name, network.preference
+
+    def asked_of(self, prefix):
+        if self.blocks is None:
+            self.blocks = sorted({entry.value for kind in ("access-list", "prefix-list")
+                                  for one in self.lists[kind].values() for entry in one.entries.values()})
+        return tuple(route.block_fits(block, prefix) for block in self.blocks)
+
+    def order(self, routers, prefix, ways):
+        return order.Order(routers, prefix, self.asn, ways)
+
+    def may_keep(self, routers, prefix, ways, kept):
+        return order.may_keep(routers, prefix, self.asn, ways, kept)
+
+    def prefers_own(self, own, back):
+        return (back.weight, self.preference(back)[0], 0) <= (own.weight, self.preference(own)[0], 1)
+
+    def against(self, own, back):
+        return f" (weight {back.weight} against {own.weight})"
+
+    def preference(self, held):
+        return (held.preference, None) if held.has_preference else (self.default_preference, self.default_line)
+
+    def shown(self, held):
+        return {"path": held.path, "origin": ORIGINS[held.origin], "med": held.med if held.has_med else None,
+                "local-pref": held.preference if held.has_preference else None, "weight": held.weight,
+                "communities": sorted(map(community_text, held.communities)),
+                "large": sorted(map(large_text, held.large))}
+
+    def no_session(self, neighbor, far):
+        if neighbor.is_shut:
+            return neighbor.line("shutdown").place, f"neighbor {neighbor.key} is shut: there is no session"
+        return None

@@ -2,7 +2,7 @@
 from collections import namedtuple
 
 from configs.places import refusal
-from configs.route import Denial, own_route
+from configs.routes import Denial
 from network import MOST_LINKS, MOST_ROUTERS
 from program import Refusal
 
@@ -147,10 +147,10 @@ class Set:
 
     def join(self, one, other):
         """Makes a session of two ends, unless one is shut."""
-        for end in (one, other):
-            if end.neighbor.is_shut:
-                end.router.warn(end.neighbor.line("shutdown").place, f"neighbor {end.neighbor.key} is shut: there is "
-                                                                     "no session")
+        for end, far in ((one, other), (other, one)):
+            found = end.router.no_session(end.neighbor, far)
+            if found:
+                end.router.warn(*found)
                 return
         if not (one.neighbor.is_active or other.neighbor.is_active):
             one.router.warn(one.neighbor.place, f"neighbor {one.neighbor.key} is not activated, nor is the other end, "
@@ -213,6 +213,11 @@ class Set:
 
     # ---- what is asked of the set
 
+    def id_of(self, asn, peer):
+        """The router id that a router says to a peer."""
+        line = self.ends[asn][peer].neighbor.line("router id")
+        return (line or self.routers[asn].router_id).name
+
     def notes(self):
         """The warnings, each with its place; of networks that are taken as announced the first alone."""
         found, is_said = [], False
@@ -229,7 +234,7 @@ class Set:
         """The router of each prefix that it announces, and the network."""
         found = {}
         for router, prefix, network in self.networks():
-            if not isinstance(own_route(router, network), Denial):
+            if router.tells(network):
                 other = found.setdefault(prefix, (router, network))
                 if other[0] is not router:
                     raise refusal(network.place, f"{prefix} has another origin at {other[1].place}: a prefix has one")
@@ -244,4 +249,4 @@ class Set:
         """A warning for each line whose route-map denies its prefix."""
         return [(network.place, f"{prefix} is not announced: {denial.place} {denial.why}")
                 for router, prefix, network in self.networks()
-                for denial in [own_route(router, network)] if isinstance(denial, Denial)]
+                for denial in [router.own_route(network)] if isinstance(denial, Denial)]

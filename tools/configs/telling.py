@@ -9,11 +9,12 @@ from configs.communities import community_text, large_text
 from configs.ends import Judge
 from configs.places import Place, refusal
 from configs.ranks import Ranks, network_lines, schedule_lines
-from configs.route import ORIGINS, Denial
+from configs.routes import ORIGINS, Denial
 from configs.sessions import dotted
 from configs.syntax import number_of, prefix_of
 from network import MOST_PATHS, Prefix, path_text, routes_of, words_of
 from program import Refusal
+from reports import is_json, read_report
 
 # Orders of ties that are played for a prefix, at most.
 MOST_ORDERS = 64
@@ -28,21 +29,24 @@ class Names:
     def __init__(self, names):
         short = [os.path.basename(name) for name in names]
         self.short = {} if len(set(short)) < len(short) else dict(zip(names, short))
+        self.folders = {os.path.dirname(name) for name in self.short}
 
     def of(self, text):
-        """A text that begins with a place, with the short name."""
+        """A text that begins with a place, with the short name. A file that another includes stands beside it, or is
+        named in whole."""
         text = str(text)
         name, colon, rest = text.partition(":")
+        folder, own = os.path.split(name)
+        if len(self.folders) == 1 and folder in self.folders:
+            return own + colon + rest
         return self.short.get(name, name) + colon + rest
 
 
 def attributes_of(router, way, names):
     """The attributes of a way that policy gave, or that are compared, each a text and the line that it comes by."""
     route, found = way.route, []
-    preference = route.preference if route.has_preference else router.default_preference
-    default = None if route.has_preference else router.default_line
-    if route.weight:
-        found.append(("weight", f"weight {route.weight}"))
+    preference, default = router.preference(route)
+    found += route.above()
     found.append(("local-pref", f"local-pref {preference}"))
     found.append(("path", f"length {len(route.path) + 1}"))
     if route.origin:
@@ -69,9 +73,15 @@ def columns(rows):
             for row in rows]
 
 
+def router_named(routers, word):
+    """The number of a router that a word names, by its number or by its host's name; None of nobody."""
+    named = [asn for asn, router in routers.routers.items() if router.host == word]
+    return named[0] if len(named) == 1 else number_of(word)
+
+
 def explain(ranks, word, prefix, names):
     """The lines that say of a router and a prefix which paths it permits, by which lines, and which it does not."""
-    asn = number_of(word)
+    asn = router_named(ranks.set, word)
     if asn not in ranks.set.routers:
         raise Refusal(f"there is no router {word}")
     order, router = ranks.orders[prefix][asn], ranks.set.routers[asn]
@@ -102,7 +112,9 @@ def play(program, ranks, most=None, lines=None):
 
 def read_routes(routers, text, name):
     """The paths of `route` and `path` lines, as `play` prints them, by router and prefix; refuses what is none of them,
-    and what is not of these configurations."""
+    and what is not of these configurations. What FRR prints as JSON is taken too."""
+    if is_json(text):
+        return known_routes(routers, read_report(text, name), name)
     lines, origins = list(enumerate(text.split("\n"), 1)), routers.origins()
     lines = [(Place(name, number), words_of(line)) for number, line in lines]
     for place, words in lines:
@@ -117,6 +129,19 @@ def read_routes(routers, text, name):
     if not found:
         raise Refusal(f"{name}: no routes, as `play` prints them")
     return found
+
+
+def known_routes(routers, routes, name):
+    """The routes of a report, of routers and prefixes of these configurations; others are refused."""
+    origins = routers.origins()
+    for asn, prefix in routes:
+        if asn not in routers.routers:
+            raise Refusal(f"{name}: these configurations have no router {asn}")
+        if prefix not in origins:
+            raise Refusal(f"{name}: no router announces {prefix}")
+    if not routes:
+        raise Refusal(f"{name}: no routes")
+    return routes
 
 
 def verify(routers, routes, chosen=None):
@@ -245,8 +270,8 @@ class Change:
         self.ends = [play(program, ranks, most) for ranks in self.sides]
 
     def lines(self):
-        """What changes, line by line."""
-        found = []
+        """What changes, line by line; prefixes of which a router's lines are the same stand in one."""
+        found, alike = [], {}
         old, new = self.sides
         for asn in sorted(set(old.set.routers) ^ set(new.set.routers)):
             found.append(f"{asn} is {'gone' if asn in old.set.routers else 'new'}")
@@ -257,7 +282,9 @@ class Change:
             for asn in sorted(set(old.set.routers) & set(new.set.routers)):
                 more = self.router_lines(asn, prefix)
                 if more:
-                    found += [f"{asn} {prefix}"] + more
+                    alike.setdefault((asn, *more), []).append(prefix)
+        for (asn, *more), prefixes in alike.items():
+            found += [f"{asn} {', '.join(map(str, prefixes))}"] + more
         return found + self.end_lines()
 
     def ways(self, at, asn, prefix):
@@ -303,9 +330,10 @@ class Change:
         found = []
         if was_settled != is_settled:
             found.append("the network settles no more" if was_settled else "the network settles now")
+        alike = {}
         for key in sorted(set(before) | set(after), key=lambda key: (key[1], key[0])):
             if before.get(key) != after.get(key):
                 asn, prefix = key
-                found.append(f"end {asn} {prefix} {path_text(after.get(key, ()))}, was "
-                             f"{path_text(before.get(key, ()))}")
-        return found
+                alike.setdefault((asn, after.get(key, ()), before.get(key, ())), []).append(prefix)
+        return found + [f"end {asn} {', '.join(map(str, prefixes))} {path_text(new)}, was {path_text(old)}"
+                        for (asn, new, old), prefixes in alike.items()]

@@ -2,7 +2,7 @@
 from collections import namedtuple
 
 from configs.places import refusal
-from configs.route import Denial, heard, own_route, told
+from configs.routes import Denial
 from network import LONGEST_PATH, path_text
 
 # How many times a route is told and judged for all prefixes of a set.
@@ -10,6 +10,13 @@ MOST_STEPS = 1_000_000
 
 # A way that a route took, from the router that has it to the origin, with its attributes there.
 Way = namedtuple("Way", "path route")
+
+
+def crossed(routers, prefix, way, peer):
+    """The route of a peer to which a router tells its way, or why it has none."""
+    teller, listener = routers.ends[way.path[0]][peer], routers.ends[peer][way.path[0]]
+    route = teller.router.told(teller.neighbor, listener, prefix, way)
+    return route if isinstance(route, Denial) else listener.router.heard(listener.neighbor, teller, prefix, route)
 
 
 class Follower:
@@ -21,15 +28,10 @@ class Follower:
     def __init__(self, routers, with_notes=False):
         self.set, self.with_notes, self.steps, self.known = routers, with_notes, 0, {}
         self.denied, self.denials = {}, {}
-        lists = [one for router in routers.routers.values() for kind in ("access-list", "prefix-list")
-                 for one in router.lists[kind].values()]
-        self.blocks = sorted({entry.value for one in lists for entry in one.entries.values()})
 
     def alike(self, prefix, router, network):
-        """What tells prefixes apart: the origin's line, and which entries of lists have them."""
-        has = tuple(block.least <= prefix.length <= block.most and prefix.address & block.mask == block.address
-                    for block in self.blocks)
-        return router.asn, network.map_name, network.preference, has
+        """What tells prefixes apart: how the origin announces them, and what the policies of all routers ask."""
+        return router.asn, router.announced(network), tuple(one.asked_of(prefix) for one in self.set.routers.values())
 
     def ways(self, prefix, router, network):
         """The ways of each router for a prefix that its origin announces."""
@@ -42,7 +44,7 @@ class Follower:
 
     def follow(self, prefix, origin, network):
         found = {asn: [] for asn in self.set.routers}
-        own = own_route(origin, network, {} if self.with_notes else None)
+        own = origin.own_route(network, {} if self.with_notes else None)
         found[origin.asn].append(Way((origin.asn,), own))
         ways = [found[origin.asn][0]]
         for way in ways:
@@ -60,9 +62,7 @@ class Follower:
         if self.steps > MOST_STEPS:
             raise refusal(teller.router.place, f"more than {MOST_STEPS} steps of ways were followed, and there are "
                                                "more: --prefix takes some prefixes, and filters make ways fewer")
-        route = told(teller.router, teller.neighbor, prefix, way.route, len(way.path) == 1)
-        if not isinstance(route, Denial):
-            route = heard(listener.router, listener.neighbor, prefix, route)
+        route = crossed(self.set, prefix, way, peer)
         if isinstance(route, Denial):
             if self.with_notes:
                 self.denied[(peer,) + way.path] = route
@@ -81,20 +81,14 @@ class Follower:
             raise refusal(self.exclusion(prefix, path), f"{prefix}: {path_text(path)} is permitted, and passes "
                           f"{path[0]} twice: its AS is excluded from the path, so that the way is not seen to be a "
                           "loop")
-        better = own.weight, self.preference(path[0], own), 1
-        if (route.weight, self.preference(path[0], route), 0) > better:
+        if not listener.router.prefers_own(own, route):
             raise refusal(listener.neighbor.place, f"{prefix}: the origin {path[0]} likes {path_text(path)} better "
-                                                   f"than its own route (weight {route.weight} against {own.weight})")
+                                                   f"than its own route{listener.router.against(own, route)}")
 
     def exclusion(self, prefix, path):
         """The line by which the first router of a way was last excluded from it."""
         router = self.set.routers[path[-1]]
-        route = own_route(router, router.networks[prefix], {})
-        for at in reversed(range(1, len(path))):
-            teller, listener = self.set.ends[path[at]][path[at - 1]], self.set.ends[path[at - 1]][path[at]]
-            route = told(teller.router, teller.neighbor, prefix, route, at == len(path) - 1)
-            route = heard(listener.router, listener.neighbor, prefix, route)
-        return route.notes["excluded", path[0]][-1]
-
-    def preference(self, asn, route):
-        return route.preference if route.has_preference else self.set.routers[asn].default_preference
+        way = Way(path[-1:], router.own_route(router.networks[prefix], {}))
+        for at in reversed(range(len(path) - 1)):
+            way = Way(path[at:], crossed(self.set, prefix, way, path[at]))
+        return way.route.notes["excluded", path[0]][-1]

@@ -81,7 +81,7 @@ def made(path):
     events = chart.events_of(asked_program().trace(text, path), chart.orders_of(text))
     every = chart.MOST_EVENTS
     asked = argparse.Namespace(first=1, last=every, first_line=1, last_line=every, updates=False, prefix=None,
-                               columns=1, slide=False)
+                               columns=1, slide=False, points=12)
     return Seen(chart.chart_of(network, events, asked).text([]))
 
 
@@ -202,6 +202,39 @@ class Chart(unittest.TestCase):
         for element in root.iter(SVG + "path"):
             if element.get("class", "").split(" ")[0] in ITEMS:
                 self.assertTrue(all(chart.TOP <= y <= float(root.get("height")) for _, y in points_of(element)))
+
+    def test_columns_end_where_no_arrow_is_under_way(self):
+        """Of DISAGREE's UPDATEs none is parted, though they cross."""
+        for words in (["examples/play/disagree.txt", "--updates", "--columns", "3"],
+                      ["examples/play/disagree.txt", "--updates", "--columns", "2"]):
+            root = xml.etree.ElementTree.fromstring(run("chart", *words)[1])
+            heads = {kind: 0 for kind in ITEMS}
+            parts = dict(heads)
+            for element in root.iter(SVG + "path"):
+                kind, *more = element.get("class", "").split(" ")
+                if kind in ITEMS:
+                    parts[kind] += 1
+                    heads[kind] += bool(more)
+            self.assertEqual(parts, heads, words)
+
+    def test_no_starts_among_updates(self):
+        whole = charted("examples/play/disagree.txt")
+        seen = charted("examples/play/disagree.txt", "--updates")
+        self.assertTrue(any(text.startswith("start") for text in whole.texts["order"]))
+        self.assertEqual(seen.texts["order"], [text for text in whole.texts["order"] if not text.startswith("start")])
+
+    def test_words_that_make_room(self):
+        words = ["examples/play/disagree.txt", "--slide"]
+        status, _, error = run("chart", *words)
+        self.assertEqual(status, 1)
+        points, last = re.search(r"--points (\d+) or --to (\d+) has room", error).groups()
+        self.assertEqual(run("chart", *words, "--points", points)[0], 0)
+        self.assertEqual(run("chart", *words, "--points", int(points) + 1)[0], 1)
+        self.assertEqual(run("chart", *words, "--to", last)[0], 0)
+        network = b"router 1 10.0.0.1\nrouter 2 10.0.0.2\nlink 1 2\n"
+        long = network + b"schedule\n" + b"start 1 2\n" * (chart.MOST_ROWS + 1)
+        last = re.search(r"--to (\d+) has room", run("chart", "-", given=long)[2])[1]
+        self.assertEqual(run("chart", "-", "--to", last, given=long)[0], 0)
 
     def test_a_part(self):
         whole = charted("examples/play/disagree.txt")

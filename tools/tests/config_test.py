@@ -2,30 +2,33 @@
 import ctypes
 import functools
 import itertools
+import json
 import pathlib
 import random
 import re
 import shutil
+import struct
 import tempfile
 import time
 import unittest
 import unittest.mock
 
 from support import asked_program, load, run
-from config_cases import CASES, HEAD, ONE, OUT1, OUT2, Q, TWO, between, diamond, line3, pair, router
+from config_cases import CASES, HEAD, ONE, OUT1, OUT2, Q, TWO, between, diamond, into, line3, pair, router
 
 from configs.communities import community_text, large_text
 from configs.ends import Judge
 from configs.order import Order, Tie
+from configs.outside import Outside
 from configs.random_sets import make
 from configs.ranks import Ranks, network_lines, schedule_lines
 from configs.reader import read_router
 from configs.regular import BadExpression, expression
-from configs.route import ORIGINS, Route
+from configs.routes import ORIGINS, Route
 from configs.sessions import Set
-from configs.telling import orders_of, play, tie_ends, verify
+from configs.telling import Names, explain, orders_of, play, read_routes, tie_ends, verify
 from configs.ways import Way
-from network import Prefix, path_text, routes_of
+from network import Network, Prefix, path_text, read_link, routes_of
 from program import Refusal
 
 topology = load("topology")
@@ -75,6 +78,182 @@ def lines_of(name, text, marker):
     return next(f"{name}:{number}" for number, line in enumerate(text.split("\n"), 1) if marker in line)
 
 
+class PassedOver(unittest.TestCase):
+    """What no IPv4 route depends on, with a warning; and all that is refused, in one run."""
+
+    SIXTH = ("neighbor 2001:db8::1 remote-as 65007 / neighbor 2001:db8::1 description six / "
+             "no neighbor 2001:db8::1 activate / address-family ipv6 unicast /  network 2001:db8::/32 /  "
+             "neighbor 2001:db8::1 activate /  redistribute connected / exit-address-family / "
+             "address-family l2vpn evpn /  advertise-all-vni / exit-address-family")
+    APART = ("vrf RED / ipv6 prefix-list P permit any / "
+             "bgp extcommunity-list standard E permit rt 1:1 / mac access-list M permit any / "
+             "route-map UNUSED permit 10 / match peer 10.255.1.1 / set ipv6 next-hop global 2001:db8::9")
+
+    def test_other_families_and_maps_that_are_not_used(self):
+        for files, wanted in ((pair("", self.SIXTH), ("address-family ipv6 unicast", "address-family l2vpn evpn",
+                                                      "2001:db8::1: a session of IPv6 that carries no IPv4 routes")),
+                              (pair(self.APART), ("vrf RED", "ipv6 prefix-list P", "bgp extcommunity-list", "mac access",
+                                                  "no IPv4 route goes by route-map UNUSED"))):
+            files["r2.conf"] = files["r2.conf"].replace("vrf RED\n", "vrf RED\n ip route 0.0.0.0/0 10.0.0.1\nexit-vrf\n")
+            routers = read_set(files)
+            plain = network_lines(Ranks(read_set(pair())))[0]
+            self.assertEqual(network_lines(Ranks(routers))[0], plain)
+            said = [why for _, why in routers.notes()]
+            for words in wanted:
+                self.assertTrue(any(words in why for why in said), (words, said))
+
+    def test_a_session_of_ipv6_that_carries_ipv4(self):
+        with self.assertRaisesRegex(Refusal, "neighbor 2001:db8::1: IPv6: prefixes are IPv4, and it carries them"):
+            read_set(pair("", "neighbor 2001:db8::1 remote-as 65007"))
+
+    def test_a_map_that_another_calls_is_used(self):
+        called = "route-map IN permit 10 / call SUB / route-map SUB permit 10 / match peer 10.255.1.1"
+        with self.assertRaisesRegex(Refusal, "this match is not read"):
+            read_set(into(called))
+
+    def test_all_refusals_in_one_run(self):
+        lines = ("neighbor 10.255.7.1 remote-as 65008 / frobnicate / redistribute static / aggregate-address 10.0.0.0/8 / "
+                 "neighbor 10.255.9.1 remote-as internal / neighbor 10.255.9.1 weight 5 / neighbor 10.255.9.1 route-map X in")
+        with self.assertRaises(Refusal) as raised:
+            read_set(pair("", lines))
+        said = raised.exception.lines
+        self.assertEqual([why.split(": ", 1)[1].split(":")[0] for why in said],
+                         ["neighbor 10.255.9.1 remote-as internal", "'frobnicate' is no line that is known here",
+                          "'redistribute static'", "'aggregate-address 10.0.0.0/8'"])
+        self.assertTrue(all(why.startswith("r2.conf:") for why in said))
+
+    def test_each_file_is_read(self):
+        with tempfile.TemporaryDirectory() as folder:
+            names = []
+            for name, text in pair("", "frobnicate").items():
+                names.append(str(pathlib.Path(folder, name)))
+                pathlib.Path(names[-1]).write_text(text.replace("router bgp 65001", "router bgp 65001\n bgp dampening"))
+            status, out, error = run("config", *names)
+        self.assertEqual((status, out, error.count("\n")), (1, "", 2), error)
+        self.assertTrue(all(line.startswith("config: ") for line in error.splitlines()))
+
+    def test_what_waits_and_what_is_kept(self):
+        routers = read_set(pair("", "bgp graceful-restart / neighbor 10.255.1.1 graceful-restart / "
+                                    "neighbor 10.255.1.1 advertisement-interval 30 / no bgp suppress-duplicates"))
+        said = [why for _, why in routers.notes()]
+        self.assertEqual(sum("are kept while it restarts" in why for why in said), 2)
+        self.assertEqual(sum("UPDATEs wait up to 30 seconds" in why for why in said), 1)
+        self.assertEqual(routers.ends[65002][65001].neighbor.value("interval"), 30)
+        self.assertIn("# 65002 keeps routes of peers that restart", network_lines(Ranks(routers))[0])
+
+    def test_a_version_above_this_one(self):
+        for version, is_told in (("8.4.4", False), ("8.5", True), ("10.0", True), ("7.5", False)):
+            files = pair()
+            files["r2.conf"] = f"frr version {version}\n" + files["r2.conf"].split("\n", 1)[1]
+            said = [why for _, why in read_set(files).notes()]
+            self.assertEqual(any("the language of FRR 8.4" in why for why in said), is_told, version)
+
+    def test_names_of_hosts(self):
+        files = {name: f"hostname {host}\n" + text for (name, text), host in zip(pair().items(), ("west", "east-1"))}
+        ranks = Ranks(read_set(files))
+        lines = network_lines(ranks)[0]
+        self.assertIn("# 65002 called east-1", lines)
+        names = Names(list(files))
+        self.assertEqual(explain(ranks, "east-1", Prefix.read("10.1.0.0/16"), names),
+                         explain(ranks, "65002", Prefix.read("10.1.0.0/16"), names))
+        network = Network(lines)
+        for word in ("west-east-1", "east-1-west", "65001-east-1"):
+            self.assertEqual(read_link(network, word), (65001, 65002))
+
+
+class OfOutside(unittest.TestCase):
+    """Neighbors without a configuration, and what routers report."""
+
+    FILES = {"r1.conf": HEAD + "router bgp 65001\n bgp router-id 10.255.1.1\n no bgp ebgp-requires-policy\n"
+                        " neighbor 10.9.0.1 remote-as 64999\n neighbor 10.9.0.1 password secret\n"
+                        " neighbor 10.255.2.1 remote-as 65002\n",
+             "r2.conf": HEAD + "interface lo\n ip address 10.255.2.1/32\ninterface eth0\n ip address 10.8.0.2/24\n"
+                        "router bgp 65002\n bgp router-id 10.255.2.1\n no bgp ebgp-requires-policy\n"
+                        " neighbor 10.8.0.1 remote-as 64999\n neighbor 10.8.0.1 ttl-security hops 1\n"
+                        " neighbor 10.255.1.1 remote-as 65001\n"}
+
+    def lines(self, asn, octets):
+        with tempfile.TemporaryDirectory() as folder:
+            names = []
+            for name, text in self.FILES.items():
+                names.append(str(pathlib.Path(folder, name)))
+                pathlib.Path(names[-1]).write_text(text)
+            seen = pathlib.Path(folder, "seen")
+            seen.write_bytes(octets)
+            status, out, error = run("config", "--network", *names, "--external", asn, seen)
+            return status, out, error.replace(folder + "/", "")
+
+    def test_three_forms_say_the_same(self):
+        text = b"# seen\n8.8.8.0/24 64999 15169\n9.9.9.0/24\n"
+        routes = {"8.8.8.0/24": [{"path": "64999 15169", "valid": True}, {"path": "65002 64999 15169", "valid": True}],
+                  "9.9.9.0/24": [{"path": "64999", "valid": True}], "7.0.0.0/8": [{"path": "1 2", "valid": True}]}
+        table = json.dumps({"localAS": 65001, "routes": routes}).encode()
+        received = json.dumps({"receivedRoutes": {prefix: own[0] for prefix, own in routes.items()}}).encode()
+        updates = b"".join(records(self.update(prefix, path)) for prefix, path in
+                           (("9.9.9.0/24", [64999]), ("8.8.8.0/24", [64999, 1]), ("8.8.8.0/24", [64999, 15169]),
+                            ("5.0.0.0/8", [64999])))
+        updates += records(message(2, struct.pack(">H", 2) + bytes([8, 5]) + struct.pack(">H", 0)))
+        found = [self.lines("64999", octets) for octets in (text, table, received, updates)]
+        for status, out, error in found:
+            self.assertEqual((status, sorted(out.splitlines())), (0, sorted(found[0][1].splitlines())), error)
+        self.assertIn("link 64999 65001\nlink 64999 65002\n", found[0][1])
+        self.assertIn("rank 65001 8.8.8.0/24 65001-64999 65001-65002-64999\n", found[0][1])
+
+    @staticmethod
+    def update(prefix, path):
+        address, length = prefix.split("/")
+        numbers = b"".join(struct.pack(">I", number) for number in path)
+        attributes = (bytes([0x40, 1, 1, 0, 0x40, 2, 2 + len(numbers), 2, len(path)]) + numbers
+                      + bytes([0x40, 3, 4, 10, 0, 0, 1]))
+        octets = bytes(map(int, address.split(".")))[:-(-int(length) // 8)]
+        return message(2, struct.pack(">HH", 0, len(attributes)) + attributes + bytes([int(length)]) + octets)
+
+    def test_longer_paths_are_liked_less(self):
+        """What stands behind the AS counts in the length, and `match as-path` sees it."""
+        files = {name: text for name, text in self.FILES.items()}
+        inside = [read_router(text, name) for name, text in files.items()]
+        with tempfile.TemporaryDirectory() as folder:
+            seen = pathlib.Path(folder, "seen")
+            seen.write_text("8.8.8.0/24 64999 1 2 3\n")
+            routers = Set([*inside, Outside(64999, str(seen)).router(inside)])
+        way = Ranks(routers).orders[Prefix.read("8.8.8.0/24")][65001].ways[0]
+        self.assertEqual(way.route.path, (64999, 1, 2, 3))
+
+    def test_refusals(self):
+        for asn, octets, why in (("64999", b"", "nothing that AS 64999 announces"), ("7", b"8.8.8.0/24\n", "no configuration has"),
+                                 ("64999", b"8.8.8.0 64999\n", "seen:1: no prefix with a path"), ("x", b"", "'x' is no AS number"),
+                                 ("64999", b"8.8.8.0/24 1 64999\n", "seen:1: the path does not begin with 64999"),
+                                 ("64999", b"{}", "no routes as FRR prints them"), ("64999", b"{", "no JSON")):
+            status, out, error = self.lines(asn, octets)
+            self.assertEqual((status, out), (1, ""))
+            self.assertIn(why, error)
+
+    def test_verify_takes_what_frr_prints(self):
+        routers = read_set(pair())
+        good = {"10.1.0.0/16": "", "10.2.0.0/16": ""}
+        said = [json.dumps({"localAS": 65001, "routes": {prefix: [{"bestpath": True, "path": path}]
+                                                         for prefix, path in good.items()}}),
+                json.dumps({"localAS": 65002, "routes": {prefix: [{"bestpath": {"overall": True}, "path": "65001"}]
+                                                         for prefix in good}})]
+        for text in ("\n".join(said), "[" + ",".join(said) + "]"):
+            routes = read_routes(routers, text, "report")
+            self.assertTrue(all(is_best for is_best, _ in verify(routers, routes)))
+        with self.assertRaisesRegex(Refusal, "have no router 9"):
+            read_routes(routers, said[0].replace("65001", "9"), "report")
+        with self.assertRaisesRegex(Refusal, "no router announces 10.3.0.0/16"):
+            read_routes(routers, said[0].replace("10.2.0.0", "10.3.0.0"), "report")
+
+
+def records(octets):
+    """A record of BGP4MP with a message of AS 64999, with AS numbers of four octets."""
+    body = struct.pack(">IIHH", 64999, 65001, 0, 1) + bytes([10, 9, 0, 1, 10, 255, 1, 1]) + octets
+    return struct.pack(">IHHI", 0, 16, 4, len(body)) + body
+
+
+def message(kind, body):
+    return b"\xff" * 16 + struct.pack(">HB", 19 + len(body), kind) + body
+
+
 class Refusals(unittest.TestCase):
     """Each refusal names the file and the line of what stands in the way."""
 
@@ -95,9 +274,7 @@ class Refusals(unittest.TestCase):
                 ("bgp confederation peers 7 8", "a confederation"),
                 ("aggregate-address 10.0.0.0/8", "an aggregate"),
                 ("aggregate-address 10.0.0.0/8 summary-only", "an aggregate"),
-                ("address-family ipv6 unicast", "IPv6"),
                 ("neighbor 2001:db8::1 remote-as 7", "IPv6"),
-                ("address-family l2vpn evpn", "not IPv4 unicast"),
                 ("address-family ipv4 vpn", "not IPv4 unicast"),
                 ("neighbor 10.255.1.1 allowas-in", "allowas-in"),
                 ("neighbor 10.255.1.1 allowas-in 2", "allowas-in"),
@@ -136,7 +313,6 @@ class Refusals(unittest.TestCase):
                 ("neighbor 10.255.1.1 route-map X", "cut short"),
                 ("neighbor 10.255.1.1 frobnicate", "is no line that is known here"),
                 ("router bgp 65009", "a second AS"),
-                ("router bgp 65002 vrf RED", "a VRF"),
                 ("bgp community alias 1:1 ONE", "names of communities"),
                 ("timers bgp 1 2", "is no line that is known here"),
                 ("neighbor 10.255.1.1 timers 5 2", "is no line that is known here"),
@@ -191,8 +367,6 @@ class Refusals(unittest.TestCase):
                 ("bgp large-community-list standard L permit 1:2", "is no community"),
                 ("ip community-list standard C permit 1:1", "'bgp community-list"),
                 ("ip as-path access-list F permit 1", "'bgp as-path"),
-                ("bgp extcommunity-list standard E permit rt 1:1", "extended communities"),
-                ("ipv6 prefix-list P permit any", "not read"),
                 ("frr defaults modern", "is no profile"),
                 ("exit", "leaves the configuration"),
                 ("end / hostname r2", "stands behind 'end'"),
@@ -227,7 +401,7 @@ class Refusals(unittest.TestCase):
                 ("match community", "cut short"),
                 ("match i address 38", "ambiguous: ip, ipv6"),
                 ("no set metric", "takes back")):
-            self.refused(pair("route-map IN permit 10 / " + line), line, why)
+            self.refused(into("route-map IN permit 10 / " + line), line, why)
         self.refused(pair("route-map IN deny 10 / on-match next"), "on-match next", "in an entry that denies")
         self.refused(pair("route-map A permit 10 / call B / route-map B permit 10 / call A"), "route-map A",
                      "called by a map that it calls")
@@ -621,6 +795,7 @@ class Printed(unittest.TestCase):
             self.assertEqual(said[said.index(f"65003 {prefix}") + 1],
                              f"  - 1 65003-65002-65001: denied at 65002 by {entry}")
         one = run("config", "--prefix", TWO, "--check", *old, "--", *new)[1].splitlines()
+        said = [line.replace(f"{ONE}, ", "") for line in said]
         self.assertEqual(one, [line for line in said if f" {ONE}" not in line and "IN 7" not in line])
         self.assertEqual(run("config", "--prefix", "10.9.0.0/16", "--check", *old, "--", *new)[::2],
                          (1, "config: no router announces 10.9.0.0/16\n"))
@@ -797,12 +972,12 @@ class Random(unittest.TestCase):
     def test_beside_frr_where_frr_is_not_there(self):
         for words in ([], ["--fail-each-link"]):
             status, out, error = run("beside_frr", "--frr", "/nowhere", "examples", *words)
-            self.assertEqual((status, error), (0, ""))
+            self.assertEqual((status, error), (1, ""))
             self.assertTrue(out.startswith("skipped"))
 
     def test_beside_frr_leaves_out_the_paths_over_a_link(self):
         paths = {1: [(1,)], 2: [(2, 3, 1), (2, 1)], 3: [(3, 1), (3, 2, 1)]}
-        without = load("beside_frr").without
+        from configs.failures import without
         self.assertEqual(without(paths, (1, 2)), {1: [(1,)], 2: [(2, 3, 1)], 3: [(3, 1)]})
         self.assertEqual(without(paths, None), paths)
 

@@ -14,8 +14,8 @@ from program import SAID, Program
 DOCUMENTS = [TOP / "README.md", *(path for folder in ("docs", "examples", "tools")
                                   for path in sorted((TOP / folder).glob("*.md")))]
 # What is not run here: the kit and the gate, another program, a file of the reader's.
-NOT_RUN = re.compile(r"\brt |^\.ci/run|\btshark\b|\boctets\.bin\b|\bupdates\.|^git ")
-PROGRAM = re.compile(r"(?<![\w/])(crates/bgpnet/out/)?bgpnet(?= )")
+NOT_RUN = re.compile(r"\brt (?!try -- )|^\.ci/run|\btshark\b|\boctets\.bin\b|\bupdates\.|^git ")
+PROGRAM = re.compile(r"(?<![\w/])((crates/bgpnet/out/)?bgpnet(?= )|rt try --(?= ))")
 
 
 def shown(text):
@@ -100,8 +100,8 @@ class Documents(unittest.TestCase):
         self.assertEqual(wanted, found)
 
     def test_each_tool_has_a_help_with_an_example(self):
-        for tool in ("streams", "topology", "settle", "lint", "whatif", "config", "beside_frr", "draw", "film", "chart",
-                     "pictures", "test"):
+        for tool in ("ask", "streams", "topology", "settle", "lint", "whatif", "config", "beside", "beside_frr", "draw", "film",
+                     "chart", "handout", "pictures", "test"):
             path = TOP / "tools" / tool
             self.assertTrue(os.access(path, os.X_OK))
             done = subprocess.run([path, "--help"], capture_output=True, text=True)
@@ -113,14 +113,14 @@ class Documents(unittest.TestCase):
 class Sheets(unittest.TestCase):
     """`examples/try FILE ..`, which tries sheets of a reader's own."""
 
-    def tried(self, *texts):
+    def tried(self, *texts, words=(), program=None, cwd=None):
         with tempfile.TemporaryDirectory() as folder:
             names = []
             for number, text in enumerate(texts):
                 names.append(str(pathlib.Path(folder, f"{number}.txt")))
-                pathlib.Path(names[-1]).write_text(text)
-            done = subprocess.run([TOP / "examples/try", *names], env=dict(os.environ, BGPNET=program_path),
-                                  capture_output=True, text=True)
+                pathlib.Path(names[-1]).write_bytes(text if isinstance(text, bytes) else text.encode())
+            done = subprocess.run([TOP / "examples/try", *words, *names], cwd=cwd, capture_output=True, text=True,
+                                  env=dict(os.environ, BGPNET=program or program_path))
             return done.returncode, done.stdout.replace(folder + "/", ""), done.stderr
 
     def test_each_word(self):
@@ -129,14 +129,70 @@ class Sheets(unittest.TestCase):
         played += "schedule\noriginate 1 10.1.0.0/16\ndecide 1\n"
         self.assertEqual(self.tried(played), (0, "0.txt: bgpnet play: as it says\n", ""))
         self.assertEqual(self.tried(played.replace("decide 1\n", "")),
-                         (1, "0.txt: bgpnet play: not as it says\n    now\n    route 1 10.1.0.0/16 none\n", ""))
+                         (1, "0.txt: bgpnet play: not as it says\n    line 2 of the answer: route 1 10.1.0.0/16 1\n", ""))
+        self.assertEqual(self.tried(played.replace("decide 1\n", ""), words=["--show"])[1].splitlines()[1:],
+                         ["    line 2 of the answer: route 1 10.1.0.0/16 1", "    now", "    route 1 10.1.0.0/16 none"])
         judged = network + "assignment\npath 1 10.1.0.0/16 1\n"
         cut = "# words: 7\n" + network + "schedule\nsnapshot 1 7\noffer 1\n"
         octets = "# answer: keepalive\nffffffffffffffff ffffffffffffffff 0013 04   # a KEEPALIVE\n"
         self.assertEqual(self.tried("# answer: stable\n" + judged, judged, cut, octets), (
-            0, "0.txt: bgpnet check: as it says\n1.txt: bgpnet check: no line `# answer:`\n    stable\n"
+            1, "0.txt: bgpnet check: as it says\n1.txt: bgpnet check: no line `# answer:`\n    stable\n"
                "2.txt: bgpnet cut 7: no line `# answer:`\n    cut 7 after 1 of 2\n    route 1 10.1.0.0/16 none\n"
                "3.txt: bgpnet decode: as it says\n", ""))
+
+    NETWORK = "router 1 10.0.0.1\nrouter 2 10.0.0.2\nlink 1 2\norigin 1 10.1.0.0/16\n"
+
+    def test_words_of_a_sheet(self):
+        played = self.NETWORK + "schedule\nstart 1 2\nstart 2 1\noriginate 1 10.1.0.0/16\nrounds 40\n"
+        why = "# words: why 2\n# answer: router 2\n# answer: peer 1 Established incarnation 1\n" \
+              "# answer: prefix 10.1.0.0/16 keeps 2-1\n# answer:   from 1 1: 2-1, kept\n# answer:   told 1\n" + played
+        trace = "# words: trace\n# answer: router 1 10.0.0.1\n# answer: schedule\n# answer: # line 5: nothing to do\n" \
+                "router 1 10.0.0.1\nschedule\ndecide 1\n"
+        run = "# words: run --turns 3000\n# answer: route 1 10.1.0.0/16 1\n# answer: route 2 10.1.0.0/16 2-1\n" + self.NETWORK
+        status, out, error = self.tried(why, run, run.replace("2-1", "none"))
+        self.assertEqual((status, error), (1, ""))
+        self.assertEqual(out.splitlines()[:3], ["0.txt: bgpnet why 2: as it says", "1.txt: bgpnet run --turns 3000: as it says",
+                                                "2.txt: bgpnet run --turns 3000: not as it says"])
+        self.assertIn("0.txt: bgpnet trace: ", self.tried(trace)[1])
+
+    def test_what_is_right_all_the_same(self):
+        disagree = (TOP / "examples/disagree.txt").read_text().split("# answer:")[0] + (
+            TOP / "examples/disagree.txt").read_text().split("assignment\n")[0].split("stable\n")[-1]
+        answer = ("prefix 10.1.0.0/16 stable 2", "route 1 10.1.0.0/16 1  ",
+                  "dispute 1 10.1.0.0/16 stable 2 routers 2 3", "choice 2-1 3-2-1", "choice 2-3-1 3-1\t")
+        sheet = "".join(f"# answer: {line}\n" for line in answer) + disagree
+        self.assertEqual(self.tried(sheet), (0, "0.txt: bgpnet stable: as it says\n", ""))
+
+    def test_sheets_without_an_answer(self):
+        status, out, _ = self.tried("#answer: stable\n" + self.NETWORK)
+        self.assertEqual((status, out.splitlines()[0]),
+                         (1, "0.txt: bgpnet check: no line `# answer:`, but one `#answer:`, without the blank"))
+
+    def test_what_the_program_says_is_shown(self):
+        status, out, _ = self.tried("# answer: stable\n" + self.NETWORK.replace("router 1", "Router 1"))
+        self.assertEqual((status, out.splitlines()[0]), (1, "0.txt: bgpnet check: not as it says"))
+        self.assertIn("    bgpnet: line 2: N1: ", out)
+
+    def test_lines_that_are_kept(self):
+        keep = "# keep: link 1 2\n# keep: origin 1 10.1.0.0/16\n"
+        good = keep + "# answer: unstable 1 has none best 1\n" + self.NETWORK
+        bad = good.replace("\nlink 1 2\n", "\nlink 2 1\n")
+        self.assertEqual(self.tried(good, bad)[:2], (1, "0.txt: bgpnet check: as it says\n1.txt: bgpnet check: as it says\n"
+                                                        "    not kept: link 1 2\n"))
+        with tempfile.TemporaryDirectory() as folder:
+            sheet = pathlib.Path(folder, "sheet.txt")
+            sheet.write_text(good)
+            self.assertIn("    not kept: link 1 2\n", self.tried(bad.replace(keep, ""), words=["--keep", sheet])[1])
+
+    def test_files_and_words(self):
+        self.assertEqual(self.tried(words=["/nowhere.txt"]), (1, "", "try: /nowhere.txt: No such file or directory\n"))
+        self.assertEqual(self.tried(words=["--help"])[::2], (0, ""))
+        self.assertEqual(self.tried(words=["--frobnicate"])[0], 2)
+        with tempfile.TemporaryDirectory() as folder:
+            pathlib.Path(folder, "bgpnet").symlink_to(program_path)
+            self.assertEqual(self.tried("# answer: unstable 1 has none best 1\n" + self.NETWORK, program="./bgpnet",
+                                        cwd=folder)[0], 0)
+        self.assertRegex(self.tried(self.NETWORK, program="/nowhere")[2], "^try: no program at /nowhere")
 
     def test_the_naughty_gadget_goes_round(self):
         """What stands behind its last order is what stood before the steps, so they can come again and again."""

@@ -1,4 +1,6 @@
 """Tests of `lint`: each mistake that passes in silence, and the examples, which have those that they show."""
+import pathlib
+import tempfile
 import unittest
 
 from support import TOP, asked_program, load, run
@@ -74,6 +76,40 @@ class Lint(unittest.TestCase):
         self.named(NETWORK + "schedule\n" + WHOLE + "snapshot 1 3\n",
                    (14, "nothing decides snapshot 3: its markers, or its parts, have not gone round"))
 
+    def test_hold_times_that_run_out(self):
+        text = NETWORK + "schedule\n" + WHOLE
+        said = ("the hold time of every session runs out, since nothing is heard for so long: put `rounds` between `ticks` "
+                "of at most 30")
+        self.named(text + "ticks 90\nrounds 5\n", (14, said))
+        self.named(text + "ticks 30\nrounds 5\n" * 4)
+        self.named(text + "ticks 89\n")
+        self.named("hold 0\n" + text + "ticks 9999\n")
+        self.named("hold 3\n" + text + "ticks 3\n", (15, said.replace("30", "1")))
+
+    def test_too_few_rounds_for_a_snapshot(self):
+        text = NETWORK + "schedule\n" + WHOLE.replace("rounds 40", "rounds 8") + "snapshot 1 7\nrounds 40\n"
+        (line, said), = lint.found_in(asked_program(), text, "-")
+        self.assertEqual(line, 14)
+        self.assertRegex(said, r"^snapshot 7 is \S.*; with more rounds before it and behind it, it is settled$")
+        self.named(text.replace("rounds 8", "rounds 40"))
+
+    def test_a_prefix_without_a_length(self):
+        for order in ("originate 1 10.1.0.0", "withdraw 1 10.1", "originate 1 x/y"):
+            status, out, error = run("lint", "-", given=(NETWORK + f"schedule\n{order}\n").encode())
+            self.assertEqual((status, out), (1, ""))
+            self.assertRegex(error, r"^lint: -:8: N8: ")
+
+    def test_refused_files_stop_nothing(self):
+        with tempfile.TemporaryDirectory() as folder:
+            names = []
+            for at, text in enumerate((NETWORK + "schedule\n", "ruter 1 1\n", NETWORK + "schedule\noriginate 1 10.1\n",
+                                       NETWORK + "schedule\n")):
+                names.append(str(pathlib.Path(folder, f"{at}.txt")))
+                pathlib.Path(names[-1]).write_text(text)
+            status, out, error = run("lint", *names, folder + "/none")
+        self.assertEqual((status, out.count("the schedule has no order"), error.count("\n")), (1, 2, 3))
+        self.assertIn("none: No such file", error)
+
     def test_examples(self):
         for folder in ("examples", "examples/play", "examples/cut", "examples/whatif"):
             names = [str(path.relative_to(TOP)) for path in sorted((TOP / folder).glob("*.txt"))]
@@ -89,15 +125,16 @@ class Lint(unittest.TestCase):
     def test_refusals(self):
         self.assertEqual(run("lint", "-", given=(NETWORK + "schedule\nstart 1 3\n").encode()),
                          (1, "", "lint: -:8: E1: a session with a router that is no peer: start 1 3\n"))
-        self.assertEqual(run("lint", "-", given=(NETWORK + "schedule\ndecide 1 # it chooses\n").encode())[2],
-                         "lint: -:8: N1: an unknown first word, a wrong number of words, or an octet past ASCII: "
-                         "decide 1 # it chooses; a remark stands on a line of its own, '#' in front\n")
+        said = run("lint", "-", given=(NETWORK + "schedule\ndecide 1 # it chooses\n").encode())[2]
+        self.assertRegex(said, r"^lint: -:8: N1: .*wrong number of words.*: decide 1 # it chooses; "
+                               r"a remark stands on a line of its own, '#' in front\n$")
         self.assertEqual(run("lint")[0], 2)
         self.assertEqual(run("lint", "nothing"), (1, "", "lint: nothing: No such file or directory\n"))
 
 
-# The schedules that show such a thing: a session that one end starts again alone, or that is not there yet.
-PLAYED = ["reset", "snapshot-not-up"]
+# The schedules that show such a thing: hold times that run out, a session that one end starts again alone, or
+# that is not there yet.
+PLAYED = ["hold-time", "reset", "snapshot-closed", "snapshot-not-up", "snapshot-superseded"]
 
 
 if __name__ == "__main__":

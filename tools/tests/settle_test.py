@@ -9,9 +9,10 @@ import unittest
 
 from support import TOP, asked_program, load, run
 
+import timing
 import tracing
 from live import GaveUp
-from network import Network, read_network
+from network import Network, path_text, read_network, routes_of
 from stable import Answer, network_text, stable_assignments
 
 settle = load("settle")
@@ -123,6 +124,53 @@ class RandomPolicies(unittest.TestCase):
                     self.assertTrue(wheel or said == "settled")
 
 
+class Timing(unittest.TestCase):
+    """The shortest orders in which routers hear, and which end otherwise."""
+
+    def test_two_ends(self):
+        for name, sentences in (("disagree", ["2 hears 1 before 3 hears 1", "3 hears 1 before 2 hears 1"]),
+                                ("wedgie", ["3 hears 4 before 2 hears 1", "2 hears 1 before 3 hears 4"])):
+            status, out, error = run("settle", f"examples/{name}.txt", "--timing", "--json")
+            (found,) = json.loads(out)["timing"].values()
+            self.assertEqual(([one["if"] for one in found], error), (sentences, ""))
+            for one in found:
+                said = asked_program().answer(["play"], one["schedule"], "timing")
+                routes = {str(router): path_text(path)
+                          for (router, _), path in routes_of(said[said.index("now"):]).items()}
+                self.assertEqual(routes, one["paths"])
+            self.assertNotEqual(found[0]["paths"], found[1]["paths"])
+            ends = [one["paths"] for prefix in json.loads(out)["prefixes"] for one in prefix["assignments"]]
+            self.assertTrue(all(one["paths"] in ends for one in found))
+
+    def test_no_shorter_orders(self):
+        """Every shorter order of hearings, tried here by brute force, comes to the first end or to none."""
+        network = Network((TOP / "examples/disagree.txt").read_text().split("\nassignment")[0].splitlines())
+        prefix = next(iter(network.origins))
+        orders = timing.shortest_orders(network, prefix)
+        self.assertEqual([len(order.telling) for order in orders.values()], [3, 3])
+        hearings = timing.Hearings(network, prefix)
+        for ways in itertools.product(range(len(hearings.ways)), repeat=2):
+            state = hearings.first()[0]
+            for way in ways:
+                state = hearings.after(state, way)[0] if state[way][1] else state
+            self.assertTrue(hearings.moves(state))
+
+    def test_one_end(self):
+        out = run("settle", "examples/good-gadget.txt", "--timing")[1]
+        self.assertNotIn("if ", out)
+
+    def test_counts(self):
+        said = json.loads(run("settle", "examples/disagree.txt", "--play", 3, "--json")[1])
+        counts = [one for end in said["orders"] for one in end["counts"]]
+        self.assertEqual(sum(end["count"] for end in said["orders"]), 5)
+        self.assertTrue(all(one["events"] > one["updates"] > 3 for one in counts))
+        rising = next(one for one in counts if one["order"] == "rising")
+        order = settle.Order(Network((TOP / "examples/disagree.txt").read_text().split("\nassignment")[0].splitlines()), "rising")
+        lines = asked_program().trace(order.whole(), "rising")
+        place = next(at for at, line in enumerate(lines) if line.startswith("originate"))
+        self.assertEqual(rising["updates"], sum(line.startswith("# tells") for line in lines[place:]))
+
+
 class Printed(unittest.TestCase):
     DISAGREE = """prefix 10.1.0.0/16 of 1
   stable assignments: 2
@@ -156,7 +204,7 @@ class Printed(unittest.TestCase):
         status, out, error = run("settle", "examples/disagree.txt", "--play", 20)
         self.assertEqual((status, error, out[:len(self.DISAGREE)]), (5, "", self.DISAGREE))
         ends = out[len(self.DISAGREE):].splitlines()
-        self.assertEqual(ends[0], "played 22 orders")
+        self.assertEqual(ends[0], "played 22 orders, counts of seeds and not odds")
         self.assertRegex(ends.pop(), r"^       --write lock-step: the state behind round \d+ comes again behind round \d+, "
                                      r"\d+ events later$")
         self.assertEqual(sum(int(line.split()[0]) for line in ends[1:]), 22)
@@ -310,7 +358,7 @@ class Answered(unittest.TestCase):
         status, out, error = run("settle", "-", "--play", 0, given=self.wide(64).encode())
         self.assertEqual((status, error), (0, ""))
         self.assertEqual(out.count("   check: stable\n"), 1)
-        self.assertIn("  no dispute wheel\n  every fair order settles, and in the same routes\nplayed 2 orders\n"
+        self.assertIn("  no dispute wheel\n  every fair order settles, and in the same routes\nplayed 2 orders, counts of seeds and not odds\n"
                       f"    2  settled {PREFIX}: 1 2-1 3-1 ", out)
 
     def test_no_rules_is_as_the_program_has_it(self):
@@ -360,7 +408,7 @@ class Answered(unittest.TestCase):
         text += "".join(f"origin 1 10.{at}.0.0/16\n" for at in range(100))
         status, out, error = run("settle", "-", "--play", 10, given=text.encode())
         self.assertEqual((status, error), (0, ""))
-        self.assertIn("played 12 orders\n   12  settled 10.0.0.0/16: 1 2-1; 10.1.0.0/16: 1 2-1; ", out)
+        self.assertIn("played 12 orders, counts of seeds and not odds\n   12  settled 10.0.0.0/16: 1 2-1; 10.1.0.0/16: 1 2-1; ", out)
         text = "cut 16\n" + (TOP / "examples/disagree.txt").read_text()
         status, out, error = run("settle", "-", "--play", 4, given=text.encode())
         self.assertEqual((status, error), (5, ""))
@@ -446,6 +494,7 @@ class NeverRests(unittest.TestCase):
         self.assertTrue(replay.is_known)
         self.assertEqual(replay.different, {("waiting", "1", "2"), ("heard", "1", "2", "10.1.0.0/16")})
         self.assertFalse(replay.now["taken", "1", "2"])
+        self.assertFalse(replay.is_touched)
         for line in ("put 1 2", "# sends keepalive"):
             replay.read(line)
-        self.assertFalse(replay.is_known)
+        self.assertTrue(replay.is_touched)

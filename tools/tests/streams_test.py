@@ -16,6 +16,9 @@ import unittest.mock
 
 from support import TOP, asked_program, load, run
 
+import attributes
+import names
+
 streams = load("streams")
 
 FIN, SYN, RST, ACK = 1, 2, 4, 16
@@ -297,7 +300,10 @@ class Segments(unittest.TestCase):
         frames = [packet(segment) for segment in talk(CLIENT, SERVER, said, 7, 1000)]
         short = [frame[:90] for frame in frames]
         for data in (pcap(101, short), *(pcapng(101, frames, "<", kind, most=90) for kind in (2, 3, 6))):
-            self.assertEqual(found_in(data), ([(said[:50], [(50, len(said) - 50)], 0)], []))
+            found, losses = found_in(data)
+            self.assertEqual(found, [(said[:50], [(50, len(said) - 50)], 0)])
+            self.assertEqual(losses, [] if data[:4] == pcap(101, [])[:4] else [
+                "1 packet of the capture cut short, at 90 octets at most: capture whole ones (tcpdump -s 0)"])
         self.assertEqual(found_in(pcap(101, short + frames))[0], whole(said))
 
     def test_a_capture_that_begins_in_the_middle(self):
@@ -803,7 +809,8 @@ class Hexed(unittest.TestCase):
         for given in (text, text.upper(), " ".join(text) + "\r\n", streams.hex_lines(said)):
             self.assertEqual(ran("-", "--decode", given=given.encode()), (0, "".join(f"{line}\n" for line in (
                 f"1  {len(said)} octets  open route-refresh update, 1 route-refresh",
-                "  open as 7 hold 90 id 10.0.0.7 cap 65 00000001 cap 2 -", "  route-refresh ipv4 unicast",
+                "  open as 7 hold 90 id 10.0.0.7 cap 65 00000001 cap 2 -",
+                "  # also: four-octet AS 1, route-refresh", "  route-refresh ipv4 unicast",
                 "  update announce 10.7.0.0/16 path 7 next 10.0.0.1", "1: width 4, by its paths")), ""))
             self.assertEqual(ran("-", 1, given=given.encode()), (0, streams.hex_lines(said), ""))
         self.assertEqual(ran("-", "--decode", "--times", given=message(4).hex().encode())[1].splitlines()[1:], ["  - keepalive"])
@@ -931,7 +938,7 @@ class Printed(unittest.TestCase):
         for other, status, line in ((speech(2, 0, self.FOUR), 0, "  update announce 10.7.0.0/16 path 70000 next 10.0.0.1"),
                                     (speech(2, 0), 1, "  fault 3 11")):
             got, out, _ = ran("-", "--decode", given=ethernet(conversation(one, other)))
-            self.assertEqual((got, out.splitlines()[2]), (status, line))
+            self.assertEqual((got, out.splitlines()[3]), (status, line))
 
     def test_decode(self):
         wrong = speech(2, 0) + message(9)
@@ -957,6 +964,80 @@ class Printed(unittest.TestCase):
         self.assertEqual((status, bytes.fromhex(out)), (1, speech(1, 2)[:30]))
         self.assertEqual(error, "streams: -: stream 1: 30 octets are missing behind octet 30\n"
                                 f"streams: -: stream 1: it ends at its first hole, {len(speech(1, 2)) - 60} octets stand behind it\n")
+
+    def test_capabilities_and_notifications_by_name(self):
+        capabilities = (bytes([1, 4, 0, 1, 0, 1]) + bytes([2, 0]) + bytes([65, 4]) + struct.pack(">I", 70000)
+                        + bytes([64, 6, 0, 120, 0, 1, 1, 0x80]) + bytes([6, 0]) + bytes([69, 4, 0, 1, 1, 3])
+                        + bytes([73, 6, 4]) + b"west" + bytes([0]) + bytes([9, 1, 3]) + bytes([200, 1, 7]))
+        stop = message(3, bytes([6, 2, 9]) + b"upgrading")
+        data = ethernet(conversation(open_message(1, capabilities) + message(4) + stop, open_message(2) + message(4)))
+        status, out, error = run("streams", "-", "--decode", given=data)
+        self.assertEqual(status, 0, error)
+        lines = out.splitlines()
+        self.assertIn("  # also: multiprotocol ipv4 unicast, route-refresh, four-octet AS 70000, graceful-restart 120 s "
+                      "(ipv4 unicast), extended messages, add-path ipv4 unicast both, hostname west, role customer, "
+                      "capability 200", lines)
+        self.assertEqual(lines[lines.index("  notification 6 2 " + (bytes([9]) + b"upgrading").hex()) + 1],
+                         "  # also: Cease, Administrative Shutdown: 'upgrading'")
+
+    def test_notifications(self):
+        for body, said in ((b"\1\2", "Message Header Error, Bad Message Length"), (b"\4\0", "Hold Timer Expired"),
+                           (b"\2\0", "OPEN Message Error, subcode 0"), (b"\x63\1", "error 99, subcode 1"),
+                           (b"\6\2\5ab", "Cease, Administrative Shutdown"), (b"\6\4\3a\nb", "Cease, Administrative Reset: 'a?b'"),
+                           (b"\6\1", "Cease, Maximum Number of Prefixes Reached")):
+            self.assertEqual(names.notification_text(body), said)
+
+    def test_some_messages_alone(self):
+        data = ethernet(conversation(speech(1, 3), speech(2, 2)))
+        whole = run("streams", "-", "--decode", given=data)[1]
+        self.assertEqual(run("streams", "-", "--decode", "--no-keepalive", given=data)[1],
+                         "".join(line + "\n" for line in whole.splitlines() if line != "  keepalive"))
+        status, out, _ = run("streams", "-", "--decode", "--prefix", "10.1.0.0/16", given=data)
+        self.assertEqual([line for line in out.splitlines() if line.startswith("  ")],
+                         ["  update announce 10.1.0.0/16 path 1 next 10.0.0.1", "  update announce 10.1.0.0/16 path 2 next 10.0.0.1"])
+        self.assertEqual(run("streams", "-", "--decode", "--prefix", "x", given=data), (1, "", "streams: 'x' is no prefix\n"))
+        self.assertEqual(run("streams", "-", "--timeline", given=data)[0], 2)
+
+    def test_one_timeline(self):
+        segments = conversation(speech(1, 3), speech(2, 2), size=400)
+        data = pcap(1, [FRAMES["Ethernet"][1](packet(said)) for said in segments],
+                    times=[(number, 0) for number in range(len(segments))])
+        lines = [line[2:] for line in run("streams", "-", "--decode", "--timeline", given=data)[1].splitlines()
+                 if line.startswith("  ")]
+        times = [line.split()[0] for line in lines]
+        self.assertEqual(times, sorted(times))
+        self.assertEqual({line.split()[1] for line in lines}, {">", "<"})
+        whole = [line[2:] for line in run("streams", "-", "--decode", given=data)[1].splitlines() if line.startswith("  ")]
+        self.assertEqual(sorted(" ".join(line.split()[2:]) for line in lines), sorted(whole))
+
+    def test_paths_of_both_widths_are_merged(self):
+        def merged(old, new):
+            values = {2: b"".join(struct.pack(">BB", kind, len(part)) + b"".join(struct.pack(">H", one) for one in part)
+                                  for kind, part in old),
+                      17: b"".join(struct.pack(">BB", kind, len(part)) + b"".join(struct.pack(">I", one) for one in part)
+                                   for kind, part in new)}
+            return attributes.merged_path(values)
+
+        for old, new, wanted in (([(2, [1, 23456, 3])], [(2, [70000, 3])], "1-70000-3"),
+                                 ([(2, [23456, 3])], [(2, [70000, 3])], "70000-3"),
+                                 ([(2, [3])], [(2, [70000, 3])], None),
+                                 ([(2, [1, 2, 23456])], [(2, [70000])], "1-2-70000"),
+                                 ([(1, [7, 8]), (2, [23456])], [(2, [70000])], "{7,8}-70000"),
+                                 ([(2, [1])], [], None)):
+            self.assertEqual(merged(old, new), wanted)
+        self.assertIsNone(attributes.merged_path({2: b"\2\1\0\1"}))
+        self.assertIsNone(attributes.merged_path({2: b"\2\1\0\1", 17: b"\2\1\0"}))
+
+    def test_packets_that_are_cut_short(self):
+        segments = conversation(speech(1, 9), speech(2, 1), size=400)
+        frames = [FRAMES["Ethernet"][1](packet(said)) for said in segments]
+        head = struct.pack("<IHHIIII", 0xA1B2C3D4, 2, 4, 0, 0, 96, 1)
+        data = head + b"".join(struct.pack("<IIII", 0, 0, min(96, len(frame)), len(frame)) + frame[:96] for frame in frames)
+        number = sum(len(frame) > 96 for frame in frames)
+        for octets in (data, pcapng(1, frames, most=96)):
+            error = run("streams", "-", given=octets)[2]
+            self.assertIn(f"{number} packets of the capture cut short, at 96 octets at most", error)
+        self.assertNotIn("cut short", run("streams", "-", given=ethernet(segments))[2])
 
     def test_wrong_words(self):
         for words in ([], ["x", "0"], ["x", "1", "--decode"], ["x", "--port", "65536"], ["x", "y", "z"], ["--pro", "x"],

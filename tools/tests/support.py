@@ -52,7 +52,7 @@ def run(tool, *words, given=b""):
         status = ended.code
     finally:
         os.chdir(here)
-    return status, *(stream.buffer.getvalue().decode() for stream in streams[1:])
+    return status, *(stream.buffer.getvalue().decode(errors="backslashreplace") for stream in streams[1:])
 
 
 def start(tool, *words):

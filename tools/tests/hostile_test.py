@@ -1,0 +1,122 @@
+"""No tool ends in a traceback, whatever it reads: texts that are made to stumble over, and files that are cut anywhere."""
+import pathlib
+import random
+import subprocess
+import sys
+import tempfile
+import unittest
+
+from support import TOP, program_path, run
+
+NETWORK = b"router 1 10.0.0.1\nrouter 2 10.0.0.2\nrouter 3 10.0.0.3\nlink 1 2\nlink 2 3\nlink 1 3\norigin 1 10.1.0.0/16\n"
+SCHEDULE = NETWORK + b"schedule\nstart 1 2\nstart 2 1\noriginate 1 10.1.0.0/16\nrounds 9\nsnapshot 1 1\nrounds 9\n"
+# Lines that a reader of its own may stumble over, which the program refuses or not.
+LINES = [b"originate 1 10.1.0.0", b"originate 1", b"rank 2 10.1.0.0/16", b"rank 2 10.1.0.0/16 1-2", b"rank 2 10.1/16 2-1",
+         b"rank 2 0.0.0.0/0 2-1 2-3-1", b"link 1 1", b"link 2 1", b"router 4294967296 10.0.0.9", b"router 4 10.0.0.4",
+         b"router 0004 010.00.0.4", b"origin 2 10.1.0.0/33", b"origin 2 255.255.255.255/32", b"asn 4", b"hold 0",
+         b"hold 3", b"cut 1", b"restart 1", b"path 2 10.1.0.0/16 none", b"snapshot 1 99999999999999999999", b"ticks 90",
+         b"# 2 customer of 99", b"# 2 at 1e9 nan", b"# 2 called x", b"# title:", b"stop 1 2", b"\xc3\xa9 1", b"\x00",
+         b"withdraw 1 10.1.0.0/16", b"put 1 2", b"tick 3", b"schedule", b"assignment", b"rounds 1000000000000"]
+WHOLE = [b"", b"\n", b"\x00", b"\xef\xbb\xbf" + NETWORK, b"\xff\xfer\x00", NETWORK.replace(b"\n", b"\r"), b"9" * 5000,
+         b"router " * 2000, b"# " + b"x" * 9000 + b"\n", NETWORK + b"assignment\n", b"schedule\n", b"assignment\n",
+         b"router 1 10.0.0.1\n", b"\x1f\x8b\x08\x00", b"BZh91AY&SY", b"{", b"[[[[", b'{"routes": 1, "localAS": []}']
+
+
+def texts(draw, number):
+    """Texts for tools that read networks and schedules: whole ones, and some with a line that is not meant so."""
+    made = []
+    for line in LINES:
+        for text in (NETWORK, SCHEDULE):
+            lines = text.splitlines()
+            lines.insert(draw.randrange(len(lines) + 1), line)
+            made.append(b"\n".join(lines) + b"\n")
+    return draw.sample(WHOLE, 6) + draw.sample(made, number)
+
+
+def cut(draw, octets, number):
+    """Parts of a file, and the file with an octet that is another."""
+    for _ in range(number):
+        at = draw.randrange(len(octets))
+        yield octets[:at] if draw.random() < 0.6 else octets[:at] + bytes([draw.randrange(256)]) + octets[at + 1:]
+
+
+class Hostile(unittest.TestCase):
+    def ends(self, tool, *words, given=b""):
+        """The tool ends by itself, with a status of its own, and says why where it refuses. What is no `SystemExit`
+        comes through as the error of this test."""
+        with self.subTest(tool=tool, words=words, given=given[:80]):
+            status, out, error = run(tool, *words, given=given)
+            self.assertIn(status, (0, 1, 2, 3, 4, 5, 6))
+            self.assertNotIn("Traceback", error)
+            if status == 1 and tool not in ("streams", "config", "ask"):
+                self.assertTrue(error.startswith(f"{tool}: "), (out, error))
+
+    def test_texts(self):
+        draw = random.Random(1)
+        for tool, words, number in (("lint", ["-"], 30), ("draw", ["-"], 20), ("film", ["-", "--each"], 14),
+                                    ("chart", ["-"], 14), ("settle", ["-", "--timing"], 14), ("ask", ["-", "play"], 14),
+                                    ("whatif", ["-", "--fail", "1-2", "--back", "--orders", "1"], 10)):
+            for text in texts(draw, number):
+                self.ends(tool, *words, given=text)
+
+    def test_cut_examples(self):
+        draw = random.Random(2)
+        play = (TOP / "examples/play/wedgie-stuck.txt").read_bytes()
+        for tool, words in (("lint", ["-"]), ("draw", ["-"]), ("film", ["-"]), ("chart", ["-", "--updates"]),
+                            ("ask", ["-", "why", "2"]), ("settle", ["-"])):
+            for text in cut(draw, play, 6):
+                self.ends(tool, *words, given=text)
+
+    def test_graphs(self):
+        draw = random.Random(3)
+        given = {"as-rel": b"# x\n1|2|-1\n1|3|-1\n2|3|0|bgp\n", "edges": b"1 2\n2 3 # x\n", "network": NETWORK,
+                 "dot": b"graph g { 1 -- 2 -- 3; 3 -- 1 [label=\"a\"] }\n",
+                 "graphml": b"<graphml><graph><node id='1'/><node id='2'/><edge source='1' target='2'/></graph></graphml>"}
+        for form, octets in given.items():
+            for text in [*cut(draw, octets, 8), *draw.sample(WHOLE, 4)]:
+                self.ends("topology", "--from", form, "-", given=text)
+
+    def test_captures(self):
+        draw = random.Random(4)
+        octets = (TOP / "examples/session.pcap").read_bytes()
+        for text in [*cut(draw, octets, 40), *WHOLE]:
+            for words in (["-"], ["-", "--decode", "--times"], ["-", "--decode", "--timeline"], ["-", "1"]):
+                self.ends("streams", *words, given=text)
+
+    def test_configurations(self):
+        draw = random.Random(5)
+        folder = TOP / "examples/config/wedgie"
+        names = sorted(map(str, folder.glob("*.conf")))
+        with tempfile.TemporaryDirectory() as place:
+            for at, text in enumerate([*cut(draw, pathlib.Path(names[1]).read_bytes(), 20), *WHOLE]):
+                other = pathlib.Path(place, f"{at}.conf")
+                other.write_bytes(text)
+                self.ends("config", "--network", names[0], other, *names[2:])
+            for text in draw.sample(WHOLE, 8):
+                other.write_bytes(text)
+                self.ends("config", "--verify", other, *names)
+                self.ends("whatif", "examples/disagree.txt", "--fail", "1-2", "--from", other)
+
+    def test_files(self):
+        with tempfile.TemporaryDirectory() as place:
+            for at, text in enumerate(WHOLE[:6]):
+                other = pathlib.Path(place, f"{at}.txt")
+                other.write_bytes(text)
+                self.ends("handout", pathlib.Path(place, f"{at}.zip"), other)
+                self.ends("draw", "examples/disagree.txt", "--routes", other)
+        self.ends("handout", "/nowhere/x.zip")
+        self.ends("pictures", "--program", "/nowhere")
+
+    def test_sheets(self):
+        with tempfile.TemporaryDirectory() as place:
+            names = []
+            for at, text in enumerate(WHOLE):
+                names.append(str(pathlib.Path(place, f"{at}.txt")))
+                pathlib.Path(names[-1]).write_bytes(text)
+            done = subprocess.run([sys.executable, TOP / "examples/try", *names, place, "/nowhere"], capture_output=True,
+                                  env={"BGPNET": str(program_path)})
+            self.assertEqual((done.returncode, b"Traceback" in done.stderr), (1, False), done.stderr)
+
+
+if __name__ == "__main__":
+    unittest.main()
