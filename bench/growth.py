@@ -1,12 +1,14 @@
 #!/usr/bin/env python3
-"""Counts how the cost of `bgpnet play` grows with routers, prefixes and rounds.
+"""Counts how the cost of `bgpnet play` grows with routers, prefixes and rounds, and that of `bgpnet safe` with routers,
+paths and prefixes.
 
     python3 bench/growth.py [PROGRAM]
 
 PROGRAM is the proved program (crates/bgpnet/out/bgpnet). Plays networks of 4 to 64 routers with 1 to 256 prefixes, from
 the start of the first session to rest, and a gadget that never rests for more and more rounds. Prints a line for each:
 the events, the instructions by valgrind's callgrind, those of one event, and the greatest memory, of which less than
-this script takes, some 11 MB, is not seen. Instructions are the same from run to run, whatever else the machine does."""
+this script takes, some 11 MB, is not seen. Then `safe` looks for dispute wheels in networks of which each router has a
+rule, and in some of which none has: the instructions, those of a prefix, and the memory. Instructions are the same from run to run, whatever else the machine does."""
 import os, random, re, subprocess, sys, tempfile
 
 TOP = os.path.dirname(os.path.dirname(os.path.abspath(__file__)))
@@ -52,6 +54,49 @@ def network(routers, prefixes):
     return len(links), "\n".join(lines) + "\n"
 
 
+def ranked(routers, paths, prefixes, seed=7):
+    """A network of which each router but the origin has a rule of so many paths, which grow outwards from it at random;
+    none has one where there are to be no paths."""
+    chosen = random.Random(seed)
+    peers = {u: set() for u in range(1, routers + 1)}
+    for u in range(2, routers + 1):
+        v = chosen.choice([v for v in range(1, u) if len(peers[v]) < 15])
+        peers[u].add(v), peers[v].add(u)
+    for _ in range(6 * routers):
+        u, v = chosen.sample(range(1, routers + 1), 2)
+        if len(peers[u]) < 16 and len(peers[v]) < 16:
+            peers[u].add(v), peers[v].add(u)
+    rows, pool = {u: {} for u in peers}, [(1,)]
+    for _ in range(20 * routers * paths):
+        rest = chosen.choice(pool[-20:]) if chosen.random() < 0.5 else chosen.choice(pool)
+        u = chosen.choice(sorted(peers[rest[0]]))
+        if u != 1 and u not in rest and len(rest) < 16 and len(rows[u]) < paths and (u, *rest) not in rows[u]:
+            rows[u][u, *rest] = None
+            pool.append((u, *rest))
+    lines = [f"router {u} 10.0.0.{u}" for u in peers] + [f"link {u} {v}" for u in peers for v in sorted(peers[u]) if u < v]
+    lines += [f"origin 1 10.{k}.0.0/16" for k in range(prefixes)]
+    lines += [" ".join([f"rank {u} 10.0.0.0/8", *("-".join(map(str, path)) for path in rows[u])])
+              for u in peers if paths and u != 1]
+    return "\n".join(lines) + "\n"
+
+
+def cost(program, word, name, folder):
+    """The instructions of a word for the text of a file, and the memory in MB."""
+    words = ["valgrind", "--tool=callgrind", f"--callgrind-out-file={os.path.join(folder, 'callgrind')}", program, word]
+    with open(name) as given:
+        said = subprocess.run(words, stdin=given, stdout=subprocess.DEVNULL, stderr=subprocess.PIPE, check=True).stderr
+    count = int(re.search(r"Collected : (\d+)", said.decode()).group(1))
+    child = os.fork()
+    if child == 0:
+        os.dup2(os.open(name, os.O_RDONLY), 0)
+        os.dup2(os.open(os.devnull, os.O_WRONLY), 1)
+        os.execv(program, [program, word])
+    _, status, used = os.wait4(child, 0)
+    if status != 0:
+        sys.exit(f"{word}: status {status}")
+    return count, used.ru_maxrss / 1024
+
+
 def measured(program, text, folder):
     """The events, the rounds that did something, the instructions, and the memory in MB."""
     name = os.path.join(folder, "text")
@@ -65,19 +110,7 @@ def measured(program, text, folder):
         for line in lines:
             events += not line.startswith("#")
             rested = rested or re.search(r"rest behind round (\d+)", line)
-    words = ["valgrind", "--tool=callgrind", f"--callgrind-out-file={os.path.join(folder, 'callgrind')}", program, "play"]
-    with open(name) as given:
-        said = subprocess.run(words, stdin=given, stdout=subprocess.DEVNULL, stderr=subprocess.PIPE, check=True).stderr
-    count = int(re.search(r"Collected : (\d+)", said.decode()).group(1))
-    child = os.fork()
-    if child == 0:
-        os.dup2(os.open(name, os.O_RDONLY), 0)
-        os.dup2(os.open(os.devnull, os.O_WRONLY), 1)
-        os.execv(program, [program, "play"])
-    _, status, used = os.wait4(child, 0)
-    if status != 0:
-        sys.exit(f"play: status {status}")
-    return events, rested and int(rested.group(1)), count, used.ru_maxrss / 1024
+    return events, rested and int(rested.group(1)), *cost(program, "play", name, folder)
 
 
 def main():
@@ -95,6 +128,14 @@ def main():
             events, _, count, memory = measured(program, text, folder)
             print(f"| 4 | 6 | 1 | {rounds}, no rest | {events:,} | {count / 1e6:.1f} |"
                   f" {count / events:,.0f} | {memory:.1f} |", flush=True)
+        print("\n| Routers | Paths a rule | Prefixes | Million instructions | For a prefix | MB |\n|---|---|---|---|---|---|")
+        for routers, paths, prefixes in [(n, 32, 16) for n in (8, 16, 32, 64)] + [(64, k, 16) for k in (4, 8, 16)] \
+                + [(64, 32, 64), (64, 0, 256)]:
+            name = os.path.join(folder, "text")
+            with open(name, "w") as out:
+                out.write(ranked(routers, paths, prefixes))
+            count, memory = cost(program, "safe", name, folder)
+            print(f"| {routers} | {paths} | {prefixes} | {count / 1e6:.1f} | {count / prefixes:,.0f} | {memory:.1f} |", flush=True)
 
 
 main()
