@@ -90,7 +90,8 @@ def relations_of(lines):
 
 # How a comment says where a router stands in a picture, in steps to the right and down, and what it is called.
 PLACE = re.compile(r"# (\d+) at (-?\d+(?:\.\d+)?) (-?\d+(?:\.\d+)?)\s*")
-NAME = re.compile(r"# (\d+) called ([A-Za-z0-9_][A-Za-z0-9_.-]*)\s*")
+NAME_FORM = r"[A-Za-z0-9_][A-Za-z0-9_.-]*"
+NAME = re.compile(rf"# (\d+) called ({NAME_FORM})\s*")
 
 
 # How a comment says that a router keeps the routes of a peer that restarts, as FRR does by `bgp graceful-restart`.

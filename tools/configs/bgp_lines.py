@@ -1,7 +1,8 @@
 """The lines below `router bgp` of a configuration of FRR: the router's own, and those of its neighbors."""
 from configs import commands
-from configs.blocks import NOT_TAKEN, Blocks, Passed
+from configs.blocks import NOT_TAKEN, Blocks
 from configs.lists import mask_of
+from configs.places import Passed
 from configs.router import SENT, Line, Neighbor, Network
 from configs.syntax import address_of, number_of, prefix_of
 from network import Prefix

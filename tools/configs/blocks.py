@@ -2,7 +2,7 @@
 import re
 
 from configs import commands
-from configs.places import Place, refusal
+from configs.places import Passed, Place, Reasons, refusal
 from configs.router import Router
 from configs.syntax import Unreadable, prefix_of
 from program import Refusal
@@ -27,18 +27,14 @@ def indent_of(line):
     return len(line) - len(line.lstrip())
 
 
-class Passed(Exception):
-    """A line is passed over, since what it is of was refused, or passed over, with a word of its own."""
-
-
 class Blocks:
-    """Obeys the lines of one file. `refused` has what is refused of them, by line; what hangs on a refused line is not
-    refused by itself."""
+    """Obeys the lines of one file. `reasons` has what is refused of them; what hangs on a refused line is not refused by
+    itself."""
 
     def __init__(self, text, name):
         self.router, self.block, self.place = Router(name), "config", Place(name, 0)
         self.entry, self.foreign, self.is_loopback, self.indent = None, None, False, None
-        self.refused, self.of_maps, self.lost, self.sixth = [], {}, set(), {}
+        self.reasons, self.of_maps, self.lost, self.sixth = Reasons(), {}, set(), {}
         is_above = True
         for number, line in cut_lines(text):
             is_above = is_above and line.strip() in PRINTED_ABOVE
@@ -57,7 +53,7 @@ class Blocks:
         except Passed:
             pass
         except Refusal as why:
-            self.refused.append(why)
+            self.reasons.add(why)
             words = line.split()
             if words[0] == "neighbor" and len(words) > 2 and ("remote-as" in words or "peer-group" in words):
                 self.lost.add(words[1])
@@ -73,8 +69,8 @@ class Blocks:
         """Passes neighbors of IPv6 over that carry no IPv4 routes."""
         for key, (place, is_active) in self.sixth.items():
             if is_active:
-                self.refused.append(refusal(place, f"neighbor {key}: {commands.REFUSED['ipv6']}, and it carries them "
-                                                   "unless 'no neighbor .. activate' stands in their family"))
+                self.reasons.add(refusal(place, f"neighbor {key}: {commands.REFUSED['ipv6']}, and it carries them "
+                                                "unless 'no neighbor .. activate' stands in their family"))
             else:
                 self.router.warn(place, f"neighbor {key}: a session of IPv6 that carries no IPv4 routes is passed over")
 
@@ -90,7 +86,7 @@ class Blocks:
         for name, reasons in self.of_maps.items():
             for place, why in reasons:
                 if name in used:
-                    self.refused.append(refusal(place, why))
+                    self.reasons.add(refusal(place, why))
                 else:
                     router.warn(place, f"{why}; no IPv4 route goes by route-map {name}, so it is passed over")
 

@@ -4,8 +4,8 @@ import re
 
 from configs import reader
 from configs.bird import reader as bird_reader
-from configs.places import Place, refusal
-from program import Refusal, refuse_all
+from configs.places import Place, Reasons, refusal
+from configs.sessions import Set
 
 # What a file of BIRD has, and one of FRR.
 OF_BIRD = re.compile(r"""^[ \t]*(?:protocol|template|define|function|filter|attribute|router[ \t]+id)[ \t]+['\w]
@@ -19,25 +19,34 @@ def is_of_bird(text):
     return OF_FRR.search(text) is None and OF_BIRD.search(text) is not None
 
 
-def read_router(text, name, of_bird=None):
-    """The router that a file is the configuration of; its language is told by what it holds where nothing says it."""
+def obey(text, name, of_bird=None):
+    """The router that a file is the configuration of, as far as its lines are taken, or None, and the reasons why others
+    are refused; its language is told by what it holds where nothing says it."""
     at = text.find("\0")
     if at >= 0:
-        raise refusal(Place(name, text.count("\n", 0, at) + 1), "an octet 0: no configuration")
-    if is_of_bird(text) if of_bird is None else of_bird:
-        return bird_reader.read_router(text, name)
-    return reader.read_router(text, name)
+        reasons = Reasons()
+        reasons.add(refusal(Place(name, text.count("\n", 0, at) + 1), "an octet 0: no configuration"))
+        return None, reasons
+    return (bird_reader if (is_of_bird(text) if of_bird is None else of_bird) else reader).obey(text, name)
 
 
-def read_routers(texts, of_bird=()):
-    """The routers of texts, by the names of their files; those that another of them includes are none. Some files are
-    said to be of BIRD."""
-    found, refused = {}, {}
-    for name, text in texts.items():
-        try:
-            found[name] = read_router(text, name, True if name in of_bird else None)
-        except Refusal as why:
-            refused[name] = why
-    included = set().union(*(router.included for router in found.values()))
-    refuse_all([why for name, why in refused.items() if os.path.realpath(name) not in included])
-    return [router for name, router in found.items() if os.path.realpath(name) not in included]
+def read_router(text, name, of_bird=None):
+    """The router that a file is the configuration of."""
+    router, reasons = obey(text, name, of_bird)
+    reasons.refuse()
+    return router
+
+
+def read_set(texts, of_bird=(), outside=()):
+    """The routers of texts, by the names of their files, and their sessions; a file that another of them includes is no
+    router. Some files are said to be of BIRD; ASes outside are there too. All that is refused of lines and of sessions
+    is told at once."""
+    found = {name: obey(text, name, True if name in of_bird else None) for name, text in texts.items()}
+    included = set().union(*(router.included for router, _ in found.values() if router))
+    reasons, routers = Reasons(files=texts), []
+    for name, (router, own) in found.items():
+        if os.path.realpath(name) not in included:
+            reasons.gather(own)
+            routers += [router] if router and router.asn is not None else []
+    inside = list(routers)
+    return Set(routers + [one for one in (reasons.attempt(one.router, inside) for one in outside) if one], reasons)

@@ -1,9 +1,11 @@
 """The rank lines of a set of configurations, and its network as a text."""
-from configs.places import refusal
+import re
+
+from configs.places import Reasons, refusal
 from configs.sessions import dotted
 from configs.ways import Follower
-from network import (GREATEST_OF_TWO_OCTETS, MOST_PATHS, MOST_PREFIXES, MOST_RULES, Network, Prefix, originations,
-                     path_text, starts)
+from network import (GREATEST_OF_TWO_OCTETS, MOST_PATHS, MOST_PREFIXES, MOST_RULES, NAME_FORM, Network, Prefix,
+                     originations, path_text, starts)
 from program import Refusal
 
 # The rounds before the snapshot, so many more for each prefix, and those behind it.
@@ -24,24 +26,28 @@ class Ranks:
 
     def __init__(self, routers, chosen=None, with_notes=False):
         self.set, self.orders, self.origins = routers, {}, {}
-        self.follower = Follower(routers, with_notes)
+        reasons = Reasons(is_one_a_line=True, files=[router.name for router in routers.routers.values()])
+        self.follower = Follower(routers, reasons, with_notes)
         known = {}
         for prefix, (router, network) in routers.origins().items():
             if chosen is not None and prefix not in chosen:
                 continue
-            ways = self.follower.ways(prefix, router, network)
+            ways = reasons.attempt(self.follower.ways, prefix, router, network)
+            if ways is None:
+                break
             self.origins[prefix] = router.asn
             if id(ways) not in known:
-                known[id(ways)] = {asn: routers.routers[asn].order(routers, prefix, found)
-                                    for asn, found in ways.items()}
+                known[id(ways)] = {asn: reasons.attempt(routers.routers[asn].order, routers, prefix, found)
+                                   for asn, found in ways.items()}
             self.orders[prefix] = known[id(ways)]
+        if len(self.origins) > MOST_PREFIXES:
+            reasons.add(refusal(next(iter(routers.routers.values())).place,
+                                f"{len(self.origins)} prefixes, and a network has at most {MOST_PREFIXES}: --prefix "
+                                "takes some"))
+        reasons.refuse()
         for prefix in chosen or ():
             if prefix not in self.origins:
                 raise Refusal(f"no router announces {prefix}")
-        if len(self.origins) > MOST_PREFIXES:
-            raise refusal(next(iter(routers.routers.values())).place,
-                          f"{len(self.origins)} prefixes, and a network has "
-                          f"at most {MOST_PREFIXES}: --prefix takes some")
 
     def tie_notes(self):
         """A warning for each class of ways that FRR tells apart by what was selected first."""
@@ -174,12 +180,13 @@ def network_lines(ranks, most=None):
     """The lines of the network, and what is to be said of paths that are left out."""
     routers, said = ranks.set.routers, []
     lines = ["asn 4"] if max(routers) > GREATEST_OF_TWO_OCTETS else []
-    lines += [f"# {asn} called {router.host}" for asn, router in routers.items() if router.host]
+    lines += [f"# {asn} called {router.host}" for asn, router in routers.items()
+              if router.host and re.fullmatch(NAME_FORM, router.host)]
     lines += [f"# {asn} keeps routes of peers that restart" for asn, router in routers.items() if router.keeps_routes]
     lines += [f"router {asn} {dotted(router.router_id.name)}" for asn, router in routers.items()]
     lines += [f"link {asn} {peer}" for asn, ends in ranks.set.ends.items() for peer in sorted(ends) if asn < peer]
     lines += [f"origin {asn} {prefix}" for prefix, asn in ranks.origins.items()]
-    wanted = {asn: {} for asn in routers}
+    wanted, reasons = {asn: {} for asn in routers}, Reasons(is_one_a_line=True)
     for prefix, origin in ranks.origins.items():
         paths = ranks.paths(prefix)
         if most:
@@ -188,15 +195,18 @@ def network_lines(ranks, most=None):
         for asn, own in paths.items():
             if asn != origin:
                 if len(own) > MOST_PATHS:
-                    raise refusal(routers[asn].place, f"{asn} permits {len(own)} paths for {prefix}, and a rule has at "
-                                                      f"most {MOST_PATHS}: --best {MOST_PATHS} leaves some out")
+                    reasons.add(refusal(routers[asn].place, f"{asn} permits {len(own)} paths for {prefix}, and a rule "
+                                                            f"has at most {MOST_PATHS}: --best {MOST_PATHS} leaves "
+                                                            "some out"))
+                    continue
                 wanted[asn][prefix] = own
     for asn, own in wanted.items():
         rules = rules_of(own, ranks.origins)
         if len(rules) > MOST_RULES:
-            raise refusal(routers[asn].place, f"{asn} needs {len(rules)} rules, and a router has at most {MOST_RULES}: "
-                                              "--prefix takes some prefixes")
+            reasons.add(refusal(routers[asn].place, f"{asn} needs {len(rules)} rules, and a router has at most "
+                                                    f"{MOST_RULES}: --prefix takes some prefixes"))
         lines += [" ".join([f"rank {asn} {prefix}", *map(path_text, paths)]) for prefix, paths in rules]
+    reasons.refuse()
     return lines, said
 
 

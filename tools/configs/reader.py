@@ -1,11 +1,8 @@
 """Reads the configuration of a router line by line, as FRR obeys it."""
-import re
-
 from configs.bgp_lines import BgpLines
 from configs.places import Place, refusal
 from configs.policy_lines import PolicyLines
 from configs.router import Line
-from program import refuse_all
 
 MOST_CALLS = 10
 
@@ -14,26 +11,24 @@ class Reader(BgpLines, PolicyLines):
     """Obeys all lines of one file."""
 
 
-def check_calls(router):
-    """Refuses route-maps that call one another in a circle, or too deep."""
+def check_calls(router, name):
+    """Refuses a route-map whose calls go in a circle, or too deep."""
     def depth(name, above):
         if name in above:
             raise refusal(router.maps[name].place, f"route-map {name} is called by a map that it calls")
         calls = [entry.call for entry in router.maps[name].ordered() if entry.call and entry.call.name in router.maps]
         return max((1 + depth(call.name, above + [name]) for call in calls), default=0)
 
-    for name in router.maps:
-        if depth(name, []) > MOST_CALLS:
-            raise refusal(router.maps[name].place, f"route-map {name}: more than {MOST_CALLS} calls in one another")
+    if depth(name, []) > MOST_CALLS:
+        raise refusal(router.maps[name].place, f"route-map {name}: more than {MOST_CALLS} calls in one another")
 
 
-def check_detection(router):
+def check_detection(router, neighbor):
     """Refuses the detection of loops by the sender where a map excludes AS numbers: else the peer finds the same."""
     excludes = any("exclude" in entry.sets for one in router.maps.values() for entry in one.ordered())
-    for neighbor in [*router.groups.values(), *router.neighbors.values()]:
-        if excludes and "loop detection" in neighbor.said:
-            raise refusal(neighbor.said["loop detection"].place, "sender-as-path-loop-detection beside 'set as-path "
-                          "exclude': what is told depends on which neighbors FRR tells alike")
+    if excludes and "loop detection" in neighbor.said:
+        raise refusal(neighbor.said["loop detection"].place, "sender-as-path-loop-detection beside 'set as-path "
+                      "exclude': what is told depends on which neighbors FRR tells alike")
 
 
 def undefined(router):
@@ -87,33 +82,34 @@ def choose_id(router):
     router.warn(router.place, f"no line 'bgp router-id': it is taken to be the address at {router.router_id.place}")
 
 
-def read_router(text, name):
-    """The router that a file is the configuration of. All that is refused of the file is told, first what no line of
-    another form could say."""
+def obey(text, name):
+    """The router that a file is the configuration of, as far as its lines are taken, and the reasons why others are
+    refused."""
     reader = Reader(text, name)
-    router, refused = reader.router, sorted(reader.refused, key=lambda why: (OF_ITS_OWN not in str(why), line_of(why)))
-    if router.asn is None and not refused:
-        raise refusal(Place(name, 1), "no configuration of a router: there is no line 'router bgp'")
-    refuse_all(refused)
-    if router.router_id is None:
-        choose_id(router)
+    router, reasons = reader.router, reader.reasons
+    if reasons:
+        router.is_whole = False
+    elif router.asn is None:
+        reasons.add(refusal(Place(name, 1), "no configuration of a router: there is no line 'router bgp'"))
+        return router, reasons
+    elif router.router_id is None:
+        reasons.attempt(choose_id, router)
     for network in router.networks.values():
         if router.option("bgp network import-check"):
             router.warn(network.place, "network: taken as announced; with import-check FRR announces it where the "
                                        "route is in its table")
             break
-    check_calls(router)
-    check_detection(router)
+    for name in router.maps:
+        reasons.attempt(check_calls, router, name)
+    for neighbor in [*router.groups.values(), *router.neighbors.values()]:
+        reasons.attempt(check_detection, router, neighbor)
     undefined(router)
     without_entries(router)
+    return router, reasons
+
+
+def read_router(text, name):
+    """The router that a file is the configuration of."""
+    router, reasons = obey(text, name)
+    reasons.refuse()
     return router
-
-
-# What is said of a line that asks for two routers of one AS.
-OF_ITS_OWN = "an AS of its own"
-
-
-def line_of(why):
-    """The line that a refusal is of."""
-    found = re.match(r".*?:(\d+): ", str(why))
-    return int(found[1]) if found else 0

@@ -1,7 +1,7 @@
 """Which neighbors of which routers are sessions: both ends name each other."""
 from collections import namedtuple
 
-from configs.places import refusal
+from configs.places import OF_ITS_OWN, Passed, Reasons, refusal
 from configs.routes import Denial
 from network import MOST_LINKS, MOST_ROUTERS
 from program import Refusal
@@ -14,85 +14,98 @@ def dotted(address):
     return ".".join(str(address >> shift & 255) for shift in (24, 16, 8, 0))
 
 
-def check_set(routers):
-    """Refuses routers that can't stand in one network."""
-    if not routers:
+def by_number(routers, reasons):
+    """The routers that can stand in one network, by their numbers, and why others can't."""
+    if not routers and not reasons:
         raise Refusal("no configurations")
     if len(routers) > MOST_ROUTERS:
-        raise refusal(routers[MOST_ROUTERS].place, f"{len(routers)} routers, and a network has at most {MOST_ROUTERS}")
+        reasons.add(refusal(routers[MOST_ROUTERS].place, f"{len(routers)} routers, and a network has at most "
+                                                         f"{MOST_ROUTERS}"))
     by_asn, by_id = {}, {}
     for router in routers:
         other = by_asn.setdefault(router.asn, router)
         if other is not router:
-            raise refusal(router.place, f"AS {router.asn} is that of {other.place} too: every router is an AS of its "
-                                        "own")
-        other = by_id.setdefault(router.router_id.name, router)
-        if other is not router:
-            raise refusal(router.router_id.place, f"the router id {dotted(router.router_id.name)} is that of "
-                                                  f"{other.router_id.place} too")
+            reasons.add(refusal(router.place, f"AS {router.asn} is that of {other.place} too: every router is "
+                                              f"{OF_ITS_OWN}"))
+        elif router.router_id is not None:
+            other = by_id.setdefault(router.router_id.name, router)
+            if other is not router:
+                reasons.add(refusal(router.router_id.place, f"the router id {dotted(router.router_id.name)} is that of "
+                                                            f"{other.router_id.place} too"))
+    return {asn: by_asn[asn] for asn in sorted(by_asn)}
 
 
 class Set:
     """The routers of a set of configurations, and their sessions.
 
     `ends` has for each router's number its end of each session, by the number of the peer; `up` those of sessions that
-    carry routes."""
+    carry routes. `reasons` are those why lines of the files are refused: with what is refused of sessions all of them are
+    told at once. What hangs on refused lines is not refused by itself."""
 
-    def __init__(self, routers):
-        check_set(routers)
-        self.routers = {router.asn: router for router in sorted(routers, key=lambda one: one.asn)}
-        self.owners = self.find_owners()
+    def __init__(self, routers, reasons=None):
+        self.reasons = reasons or Reasons()
+        self.routers = by_number(routers, self.reasons)
+        self.owners, self.ends = {}, {asn: {} for asn in self.routers}
+        self.find_owners()
         self.find_external()
-        self.ends = {asn: {} for asn in self.routers}
         self.find_sessions()
         self.up = {asn: [peer for peer in sorted(ends) if self.carries(asn, peer)] for asn, ends in self.ends.items()}
-        self.check_connected()
+        if not self.reasons:
+            self.check_connected()
+        self.reasons.refuse()
 
     # ---- whose an address is
 
     def find_owners(self):
         """The router of each address that lines say something of: interfaces and sources say whose their own are, and
         neighbors with a number whose the other end's is."""
-        owners = {}
-
-        def claim(address, router, place):
-            other = owners.setdefault(address, (router, place))
-            if other[0] is not router:
-                raise refusal(place, f"{dotted(address)} is an address of {router.asn} here, and of {other[0].asn} at "
-                                     f"{other[1]}")
-
         for router in self.routers.values():
             for address, place in router.addresses.items():
                 if address >> 24 != 127:
-                    claim(address, router, place)
+                    self.claim(address, router, place)
             for neighbor in router.neighbors.values():
                 source = neighbor.line("source")
                 if source and isinstance(source.name, int):
-                    claim(source.name, router, source.place)
+                    self.claim(source.name, router, source.place)
         for router in self.routers.values():
             for neighbor in router.neighbors.values():
-                if neighbor.asn is None:
-                    raise refusal(neighbor.place, f"neighbor {neighbor.key}: no line says its AS")
-                if neighbor.asn.name in self.routers:
-                    claim(neighbor.address, self.routers[neighbor.asn.name], neighbor.asn.place)
-        for router in self.routers.values():
-            for neighbor in router.neighbors.values():
-                owner, place = owners.get(neighbor.address, (None, None))
-                if owner and neighbor.asn.name not in ("external", owner.asn):
-                    raise refusal(neighbor.asn.place, f"neighbor {neighbor.key} is AS {neighbor.asn.name} here, and "
-                                                      f"its address is one of {owner.asn} at {place}")
-        ids = {router.router_id.name: router for router in self.routers.values()}
-        for router in self.routers.values():
-            for neighbor in router.neighbors.values():
-                if neighbor.asn.name == "external" and neighbor.address in ids:
-                    owners.setdefault(neighbor.address, (ids[neighbor.address], ids[neighbor.address].router_id.place))
-        return owners
+                if neighbor.asn is None and router.is_whole:
+                    self.reasons.add(refusal(neighbor.place, f"neighbor {neighbor.key}: no line says its AS"))
+        for _, neighbor in self.named():
+            if neighbor.asn.name in self.routers:
+                self.claim(neighbor.address, self.routers[neighbor.asn.name], neighbor.asn.place)
+        for _, neighbor in self.named():
+            owner, place = self.owners.get(neighbor.address, (None, None))
+            if owner and neighbor.asn.name not in ("external", *self.routers):
+                self.reasons.add(refusal(neighbor.asn.place, f"neighbor {neighbor.key} is AS {neighbor.asn.name} here, "
+                                                             f"and its address is one of {owner.asn} at {place}"))
+        ids = {router.router_id.name: router for router in self.routers.values() if router.router_id}
+        for _, neighbor in self.named():
+            if neighbor.asn.name == "external" and neighbor.address in ids:
+                owner = ids[neighbor.address]
+                self.owners.setdefault(neighbor.address, (owner, owner.router_id.place))
+
+    def named(self):
+        """The neighbors of which lines say the AS, each with its router."""
+        return [(router, neighbor) for router in self.routers.values() for neighbor in router.neighbors.values()
+                if neighbor.asn is not None]
+
+    def claim(self, address, router, place):
+        """Says that a router has an address."""
+        other = self.owners.setdefault(address, (router, place))
+        if other[0] is not router:
+            self.reasons.add(refusal(place, f"{dotted(address)} is an address of {router.asn} here, and of "
+                                            f"{other[0].asn} at {other[1]}"))
 
     def peer_of(self, router, neighbor):
         """The router that a neighbor is, or None where it is none of the set."""
-        if neighbor.asn.name != "external":
-            return self.routers.get(neighbor.asn.name)
-        owner = self.owners.get(neighbor.address)
+        number, owner = neighbor.asn.name, self.owners.get(neighbor.address)
+        if number != "external":
+            if owner and owner[0].asn != number:
+                raise Passed  # it was refused by whose the address is
+            return self.routers.get(number)
+        if owner is None and self.reasons:
+            raise Passed
         if owner is None:
             raise refusal(neighbor.place, f"neighbor {neighbor.key}: which router has this address no line says: give "
                                           "its AS number, or the addresses of interfaces")
@@ -101,7 +114,7 @@ class Set:
     def find_external(self):
         """The routers of neighbors without a number whose address no line says: the only one left that names the router
         and is none of its other neighbors, as long as such are found."""
-        left = [(router, neighbor) for router in self.routers.values() for neighbor in router.neighbors.values()
+        left = [(router, neighbor) for router, neighbor in self.named()
                 if neighbor.asn.name == "external" and neighbor.address not in self.owners]
         is_new = True
         while left and is_new:
@@ -109,8 +122,9 @@ class Set:
             for router, neighbor in list(left):
                 known = {self.owners[one.address][0] for one in router.neighbors.values() if one.address in self.owners}
                 naming = [other for other in self.routers.values() if other is not router and other not in known
-                          and any(one.asn.name == router.asn or one.address in self.owners
-                                  and self.owners[one.address][0] is router for one in other.neighbors.values())]
+                          and any(of is other and (one.asn.name == router.asn or one.address in self.owners
+                                                   and self.owners[one.address][0] is router)
+                                  for of, one in self.named())]
                 if len(naming) == 1:
                     self.owners[neighbor.address] = naming[0], neighbor.place
                     left.remove((router, neighbor))
@@ -120,33 +134,39 @@ class Set:
 
     def find_sessions(self):
         named = {}
-        for router in self.routers.values():
-            for neighbor in router.neighbors.values():
-                peer = self.peer_of(router, neighbor)
-                if peer is router:
-                    raise refusal(neighbor.place, f"neighbor {neighbor.key} is the router itself")
-                if peer is None:
-                    router.warn(neighbor.place, f"neighbor {neighbor.key}: no configuration of AS {neighbor.asn.name} "
-                                                "is among these, so there is no session")
-                    continue
-                other = named.setdefault((router.asn, peer.asn), neighbor)
-                if other is not neighbor:
-                    raise refusal(neighbor.place, f"neighbor {neighbor.key} is a second session with {peer.asn}: the "
-                                                  f"first is at {other.place}")
+        for router, neighbor in self.named():
+            self.reasons.attempt(self.find_peer, router, neighbor, named)
         for (asn, peer), neighbor in named.items():
             router, other = self.routers[asn], named.get((peer, asn))
             if other is None:
                 router.warn(neighbor.place, f"neighbor {neighbor.key} is {peer}, and {self.routers[peer].place} names "
                                             f"no neighbor {asn}: there is no session")
             elif asn < peer:
-                self.join(End(router, neighbor), End(self.routers[peer], other))
+                self.reasons.attempt(self.join, End(router, neighbor), End(self.routers[peer], other))
         for asn, ends in self.ends.items():
             if len(ends) > MOST_LINKS:
                 router = self.routers[asn]
-                raise refusal(router.place, f"{asn} has {len(ends)} sessions, and a router has at most {MOST_LINKS}")
+                self.reasons.add(refusal(router.place, f"{asn} has {len(ends)} sessions, and a router has at most "
+                                                       f"{MOST_LINKS}"))
+
+    def find_peer(self, router, neighbor, named):
+        """Finds the router that a neighbor is, of which `named` has the sessions that a router names."""
+        peer = self.peer_of(router, neighbor)
+        if peer is router:
+            raise refusal(neighbor.place, f"neighbor {neighbor.key} is the router itself")
+        if peer is None:
+            router.warn(neighbor.place, f"neighbor {neighbor.key}: no configuration of AS {neighbor.asn.name} is among "
+                                        "these, so there is no session")
+            return
+        other = named.setdefault((router.asn, peer.asn), neighbor)
+        if other is not neighbor:
+            raise refusal(neighbor.place, f"neighbor {neighbor.key} is a second session with {peer.asn}: the first is "
+                                          f"at {other.place}")
 
     def join(self, one, other):
-        """Makes a session of two ends, unless one is shut."""
+        """Makes a session of two ends, unless one is shut. What is refused of a pair is found one by one."""
+        if not (one.router.is_whole and other.router.is_whole):
+            raise Passed
         for end, far in ((one, other), (other, one)):
             found = end.router.no_session(end.neighbor, far)
             if found:
@@ -156,26 +176,39 @@ class Set:
             one.router.warn(one.neighbor.place, f"neighbor {one.neighbor.key} is not activated, nor is the other end, "
                                                 f"{other.neighbor.place}: there is no session")
             return
-        for end, far in ((one, other), (other, one)):
-            own = {*far.router.addresses, *(one.value("source") for one in far.router.neighbors.values())}
-            if far.router.addresses and end.neighbor.address not in own:
-                raise refusal(end.neighbor.place, f"neighbor {end.neighbor.key} is no address of {far.router.name}")
-            self.check_source(end, far)
-            self.check_hops(end, far)
-        secrets = [end.neighbor.line("password") for end in (one, other)]
-        if (secrets[0] and secrets[0].name) != (secrets[1] and secrets[1].name):
-            said = secrets[0] or secrets[1]
-            end = other if secrets[0] else one
-            raise refusal(said.place, f"the password is not that of the other end, {end.neighbor.place}")
-        if all(end.neighbor.value("passive", False) for end in (one, other)):
-            raise refusal(one.neighbor.line("passive").place, f"both ends are passive: the other at "
-                                                              f"{other.neighbor.line('passive').place}")
         self.ends[one.router.asn][other.router.asn] = one
         self.ends[other.router.asn][one.router.asn] = other
         for end in (one, other):
             if not end.neighbor.is_active:
                 end.router.warn(end.neighbor.place, f"neighbor {end.neighbor.key} is not activated: the session "
                                                     "carries no routes")
+        for end, far in ((one, other), (other, one)):
+            self.reasons.attempt(self.check_address, end, far)
+            self.reasons.attempt(self.check_source, end, far)
+            self.reasons.attempt(self.check_hops, end, far)
+        self.reasons.attempt(self.check_password, one, other)
+        self.check_passive(one, other)
+
+    @staticmethod
+    def check_address(end, far):
+        """Refuses a neighbor's address that the other end does not have."""
+        own = {*far.router.addresses, *(one.value("source") for one in far.router.neighbors.values())}
+        if far.router.addresses and end.neighbor.address not in own:
+            raise refusal(end.neighbor.place, f"neighbor {end.neighbor.key} is no address of {far.router.name}")
+
+    @staticmethod
+    def check_password(one, other):
+        secrets = [end.neighbor.line("password") for end in (one, other)]
+        if (secrets[0] and secrets[0].name) != (secrets[1] and secrets[1].name):
+            said = secrets[0] or secrets[1]
+            end = other if secrets[0] else one
+            raise refusal(said.place, f"the password is not that of the other end, {end.neighbor.place}")
+
+    @staticmethod
+    def check_passive(one, other):
+        if all(end.neighbor.value("passive", False) for end in (one, other)):
+            raise refusal(one.neighbor.line("passive").place, f"both ends are passive: the other at "
+                                                              f"{other.neighbor.line('passive').place}")
 
     @staticmethod
     def check_source(end, far):
@@ -232,12 +265,14 @@ class Set:
 
     def origins(self):
         """The router of each prefix that it announces, and the network."""
-        found = {}
+        found, reasons = {}, Reasons()
         for router, prefix, network in self.networks():
-            if router.tells(network):
+            if reasons.attempt(router.tells, network):
                 other = found.setdefault(prefix, (router, network))
                 if other[0] is not router:
-                    raise refusal(network.place, f"{prefix} has another origin at {other[1].place}: a prefix has one")
+                    reasons.add(refusal(network.place, f"{prefix} has another origin at {other[1].place}: a prefix has "
+                                                       "one"))
+        reasons.refuse()
         return {prefix: found[prefix] for prefix in sorted(found)}
 
     def networks(self):

@@ -5,13 +5,14 @@ from configs.routes import Denial
 class Speaker:
     """A router as its file says. A language is a reader that makes one, and the answers to what stands below.
 
-    `asn`, `router_id`, `place` (of the router in its file) and `host`, its name, are said by lines; `neighbors` has its neighbors by
-    address, `networks` what it announces by prefix, `addresses` those of its interfaces. `notes` are its warnings, each
-    with its place; `foreign` has the numbers of lines that other daemons take, and `end` that of its last line.
-    `language` names the software that reads it, `included` are the paths of files that the file includes, and `keeps_routes`
-    is whether it keeps the routes of a peer that restarts."""
+    `asn`, `router_id`, `place` (of the router in its file) and `host`, its name, are said by lines; `neighbors` has its
+    neighbors by address, `networks` what it announces by prefix, `addresses` those of its interfaces. `notes` are its
+    warnings, each with its place; `foreign` has the numbers of lines that other daemons take, and `end` that of its
+    last line.
+    `language` names the software that reads it, `included` are the paths of files that the file includes, `keeps_routes` is
+    whether it keeps the routes of a peer that restarts, and `is_whole` whether all lines of its file are taken."""
 
-    language, included, keeps_routes = None, frozenset(), False
+    language, included, keeps_routes, is_whole = None, frozenset(), False, True
 
     def __init__(self, name):
         self.name, self.notes, self.end = name, [], None

@@ -20,13 +20,14 @@ def crossed(routers, prefix, way, peer):
 
 
 class Follower:
-    """Follows the ways of the prefixes of a set; those that go alike are followed once.
+    """Follows the ways of the prefixes of a set; those that go alike are followed once. `reasons` is where it is kept why
+    ways are refused.
 
     `with_notes` asks for the line of each attribute, and for `denials`: of each prefix the denial of each way that ends
     in one."""
 
-    def __init__(self, routers, with_notes=False):
-        self.set, self.with_notes, self.steps, self.known = routers, with_notes, 0, {}
+    def __init__(self, routers, reasons, with_notes=False):
+        self.set, self.reasons, self.with_notes, self.steps, self.known = routers, reasons, with_notes, 0, {}
         self.denied, self.denials = {}, {}
 
     def alike(self, prefix, router, network):
@@ -56,12 +57,17 @@ class Follower:
         return found
 
     def step(self, prefix, way, peer, own):
-        """The way on to a peer, or None where it is denied."""
+        """The way on to a peer, or None where it is denied, or refused."""
         self.steps += 1
-        teller, listener = self.set.ends[way.path[0]][peer], self.set.ends[peer][way.path[0]]
         if self.steps > MOST_STEPS:
-            raise refusal(teller.router.place, f"more than {MOST_STEPS} steps of ways were followed, and there are "
-                                               "more: --prefix takes some prefixes, and filters make ways fewer")
+            raise refusal(self.set.routers[way.path[0]].place,
+                          f"more than {MOST_STEPS} steps of ways were followed, and there are more: --prefix takes some "
+                          "prefixes, and filters make ways fewer")
+        return self.reasons.attempt(self.way_on, prefix, way, peer, own)
+
+    def way_on(self, prefix, way, peer, own):
+        """The way on to a peer, or None where it is denied."""
+        listener = self.set.ends[peer][way.path[0]]
         route = crossed(self.set, prefix, way, peer)
         if isinstance(route, Denial):
             if self.with_notes:

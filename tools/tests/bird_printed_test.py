@@ -122,6 +122,24 @@ class Printed(unittest.TestCase):
         self.assertEqual((status, error), (0, ""))
         self.assertIn("med 2", out)
 
+    def test_patterns_of_an_include(self):
+        """A folder among the files is passed over, and a pattern may fit none; but the folder of a pattern has to be
+        there."""
+        files = line(top2='include "parts.d/*";', b_in1="filter marked")
+        folder, names = self.written(files)
+        pathlib.Path(folder, "parts.d", "more").mkdir(parents=True)
+        pathlib.Path(folder, "parts.d", "a.inc").write_text("filter marked { bgp_med = 7; accept; }\n")
+        pathlib.Path(folder, "parts.d", "more", "b.inc").write_text("frobnicate;\n")
+        status, out, error = run("config", "--explain", 64602, ONE, *names)
+        self.assertEqual((status, error), (0, ""))
+        self.assertIn("med 7 (parts.d/a.inc:1 filter marked)", out.replace(folder + "/", ""))
+        for pattern, wanted in (("parts.d/*.nothing", (0, "")), ("nowhere/*.inc", (1, "nowhere: No such file"))):
+            text = files["r2.conf"].replace("parts.d/*", pattern).replace("filter marked", "all")
+            pathlib.Path(folder, "r2.conf").write_text(text)
+            status, _, error = run("config", "--network", *names)
+            self.assertEqual(status, wanted[0])
+            self.assertIn(wanted[1], error)
+
     def test_the_language_of_a_file(self):
         files = pair()
         files["r1.conf"] = "# router bgp 7, once\n" + files["r1.conf"]
@@ -131,6 +149,19 @@ class Printed(unittest.TestCase):
         _, names = self.written({**files, "r2.conf": odd + "/*\nrouter bgp 9\n*/\n"})
         self.assertIn("is no line that is known here", run("config", "--network", *names)[2])
         self.assertEqual(run("config", "--network", names[0], "--bird", names[1])[::2], (0, ""))
+
+    def test_what_a_router_is_called_and_what_outlasts_a_restart(self):
+        files = line(top1='hostname "west";', top2='hostname "two words";', a_opt2="graceful restart;",
+                     b_opt1="graceful restart aware;", b_opt3="graceful restart off; / long lived graceful restart on;")
+        _, names = self.written(files)
+        status, out, error = run("config", "--network", *names)
+        self.assertEqual(status, 0, error)
+        self.assertEqual([text for text in out.splitlines() if text.startswith("#")],
+                         ["# 64601 called west", "# 64601 keeps routes of peers that restart",
+                          "# 64602 keeps routes of peers that restart"])
+        self.assertEqual([text.split(": ")[2:4] for text in error.splitlines()], [
+            [f"{names[0]}:11", "'graceful restart'"], [f"{names[1]}:17", "'long lived graceful restart'"]])
+        self.assertEqual(*(run("config", "--explain", word, ONE, *names) for word in ("west", 64601)))
 
     def test_warnings(self):
         top = ("protocol kernel { ipv4 { export all; }; } / protocol bfd { } / protocol ospf v3 { area 0 { }; } / "

@@ -132,8 +132,9 @@ class Refused(Refuses):
             self.refused(pair(top2=top), marker, why)
 
     def test_ends_that_do_not_fit(self):
-        """As for FRR: what leaves no session is refused."""
-        self.refused(line(a_opt2="passive;", b_opt1="passive;"), "passive", "both ends are passive", "r1.conf")
+        """As for FRR: what contradicts the other end is refused. Where no session is left, the network is in parts."""
+        files = line(a_opt2="passive;", b_opt1="passive;")
+        self.refused(files, "protocol bgp r1", "the network isn't connected; r1.conf:10: protocol r2: both ends are passive")
         self.refused(line(a_opt2='password "a";', b_opt1='password "b";'), "password", "the password is not that",
                      "r1.conf")
         self.refused(line(a_opt2="ttl security on;"), "ttl security", "takes a TTL from 255", "r1.conf")

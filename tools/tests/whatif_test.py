@@ -392,7 +392,7 @@ class Printed(unittest.TestCase):
         text = "# 2 keeps routes of peers that restart\n" + (TOP / "examples/shortest.txt").read_text().split("\nassignment\n")[0] + "\n"
         for words, is_told in ((["--crash", 1], True), (["--silent", "1-2"], True), (["--fail", "1-2"], False)):
             error = run("whatif", "-", *words, given=text.encode())[2]
-            self.assertEqual("2: graceful-restart: FRR keeps the routes" in error, is_told)
+            self.assertEqual("2: graceful-restart: routes are kept while a router restarts" in error, is_told)
 
     def test_prefixes_that_behave_alike(self):
         text = hierarchy(8, 3) + "origin 1 10.77.0.0/16\norigin 1 10.78.0.0/16\n"

@@ -40,7 +40,7 @@ ignored    debug <protocols|channels|commands|latency> REST
 ignored    mrtdump REST
 ignored    timeformat REST
 ignored    watchdog <warning|timeout> REST
-ignored    hostname TEXT
+host       hostname TEXT
 ignored    graceful restart wait NUM
 """
 
@@ -61,9 +61,8 @@ ignored    <connect delay|connect retry|error forget|start delay> time NUM
 ignored    error wait time NUM , NUM
 ignored    disable after error BOOL
 ignored    disable after cease REST
-ignored    graceful restart <aware|BOOL>
+restart    <graceful restart|long lived graceful restart> <aware|BOOL>
 ignored    graceful restart time NUM
-ignored    long lived graceful restart <aware|BOOL>
 ignored    long lived stale time NUM
 ignored    enable <route refresh|enhanced route refresh|extended messages> BOOL
 as4        enable as4 BOOL
@@ -76,7 +75,7 @@ value      <default bgp_local_pref|default bgp_med> NUM
 if_on      prefer older BOOL
 if_on      rr client BOOL
 reflector  rr cluster id REST
-loops      allow local as [NUM]
+own        allow local as [NUM]
 confederation confederation REST
 password   password TEXT
 ttl        ttl security BOOL

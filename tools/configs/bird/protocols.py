@@ -37,11 +37,11 @@ class Channel:
 
 
 class Protocol:
-    """What a protocol's lines say, or a template's."""
+    """What a protocol's lines say, or a template's, and whether all of them are taken."""
 
     def __init__(self, kind, name, place):
         self.kind, self.name, self.place, self.end = kind, name, place, place
-        self.said, self.channels, self.routes = {}, {}, []
+        self.said, self.channels, self.routes, self.is_whole = {}, {}, [], True
 
     def value(self, words, default=None):
         line = self.said.get(words)
@@ -50,7 +50,7 @@ class Protocol:
     def copied(self, name, place):
         """The same under another name."""
         found = Protocol(self.kind, name, place)
-        found.said, found.routes = dict(self.said), list(self.routes)
+        found.said, found.routes, found.is_whole = dict(self.said), list(self.routes), self.is_whole
         found.channels = {family: channel.copied() for family, channel in self.channels.items()}
         return found
 
@@ -64,9 +64,19 @@ class Protocols(Statements):
         while not self.is_next("}"):
             if self.take(";"):
                 continue
-            self.option(protocol, table, special)
-            self.expect(";")
+            self.try_option(protocol, protocol, table, special)
         protocol.end = self.next().place
+
+    def try_option(self, protocol, owner, table, special):
+        """One option with its semicolon; without it the protocol is not whole."""
+        def read():
+            self.option(owner, table, special)
+            self.expect(";")
+
+        if self.token.kind == "end":
+            self.unexpected("'}'")
+        if not self.try_to_read(read, self.skip_option):
+            protocol.is_whole = False
 
     def option(self, owner, table, special):
         """One option, by a method of its own, or by its row of a table."""
@@ -186,6 +196,16 @@ class Protocols(Statements):
         if not self.switch_value():
             self.refuse(f"'{words} off': {options.REFUSED['narrow']}", place)
 
+    def do_own(self, owner, words, rest, place):
+        """One's own AS in a path: none at all is the default."""
+        if not rest or self.number():
+            self.refuse(f"'{words}': {options.REFUSED['loops']}", place)
+
+    def do_restart(self, owner, words, rest, place):
+        """Routes that outlast a restart: the neighbor keeps them, unless it says off."""
+        if not self.take("aware"):
+            owner.said[words] = Line(self.switch_value(), place)
+
     def do_direct(self, owner, words, rest, place):
         owner.said["multihop"] = Line(0, place)
 
@@ -259,8 +279,7 @@ class Protocols(Statements):
         channel.is_own, channel.end = True, token.place
         if self.take("{"):
             while not self.is_next("}"):
-                self.option(channel, table, {})
-                self.expect(";")
+                self.try_option(protocol, channel, table, {})
             channel.end = self.next().place
 
     # ---- bgp and static

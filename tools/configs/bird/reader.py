@@ -15,7 +15,7 @@ from configs.bird.run import Failure, function_of
 from configs.bird.sets import Mask, PrefixSet, Set
 from configs.bird.tokens import Lexer
 from configs.bird.values import type_of
-from configs.places import Place, refusal
+from configs.places import Place, Reasons, refusal
 from configs.router import Line
 
 # The types that an attribute of one's own may have.
@@ -32,21 +32,17 @@ DEEPEST = 5000
 class Reader(Protocols):
     """Reads the items of a file into a router."""
 
-    def __init__(self, text, name, read):
-        lexer = Lexer(read)
-        lexer.take(text, name)
+    def __init__(self, lexer, name):
         super().__init__(lexer.found, name)
-        self.router, self.counts = Router(name), {}
+        self.router, self.counts = Router(name, self.reasons), {}
         self.router.included = lexer.included
         for table in ("master4", "master6"):
             self.scopes.define(Symbol(table, "table", table, None, Place(name, 0)))
 
     def read_items(self):
-        try:
-            while self.token.kind != "end":
-                self.top_item()
-        except RecursionError:
-            self.refuse("what stands here is nested too deep")
+        while self.token.kind != "end":
+            self.try_to_read(self.top_item, self.skip_item)
+        self.router.is_whole = not self.reasons
 
     def warn(self, place, said):
         self.router.warn(place, said)
@@ -129,6 +125,9 @@ class Reader(Protocols):
     def do_number_id(self, router, words, rest, place):
         router.router_id = Line(self.number(), place)
 
+    def do_host(self, router, words, rest, place):
+        router.host = self.of_kind("text", "a name").value
+
     # ---- protocols
 
     def protocol(self, is_template):
@@ -152,7 +151,7 @@ class Reader(Protocols):
         else:
             self.foreign(found, version)
         if not is_template:
-            self.router.take_protocol(found)
+            self.reasons.attempt(self.router.take_protocol, found)
 
     def default_name(self, kind):
         """The name of a protocol that has none: the next number of its kind."""
@@ -178,16 +177,24 @@ class Reader(Protocols):
         protocol.said = {word: Line(True, protocol.place) for word in words}
 
 
-def read_router(text, name, read=None):
-    """The router that a file is the configuration of. `read` gives the text of a file that it includes."""
+def obey(text, name):
+    """The router that a file is the configuration of, as far as its items are taken, and the reasons why others are
+    refused."""
     sys.setrecursionlimit(max(sys.getrecursionlimit(), DEEPEST))
-    reader = Reader(text, name, read or read_file)
+    lexer, unread = Lexer(read_file), Reasons()
+    unread.attempt(lexer.take, text, name)
+    if unread:
+        lexer.found = []
+    reader = Reader(lexer, name)
+    router, reasons = reader.router, reader.reasons
+    reasons.gather(unread)
     reader.read_items()
-    router = reader.router
-    if router.asn is None:
-        raise refusal(Place(name, 1), "no configuration of a router of BGP: there is no 'protocol bgp'")
-    router.finish()
-    return router
+    if router.asn is None and not reasons:
+        reasons.add(refusal(Place(name, 1), "no configuration of a router of BGP: there is no 'protocol bgp'"))
+    elif router.is_whole:
+        router.finish()
+        router.is_whole = not reasons
+    return router, reasons
 
 
 def read_file(name):

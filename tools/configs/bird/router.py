@@ -14,6 +14,7 @@ from configs.speaker import Speaker
 Network = namedtuple("Network", "prefix protocol kind body place")
 STOPPED = frozenset((NO_EXPORT, NO_ADVERTISE, LOCAL_AS))
 DEFAULT_PREFERENCE = 100
+RESTARTS = ("graceful restart", "long lived graceful restart")
 
 
 class Peer(Neighbor):
@@ -60,19 +61,24 @@ class Peer(Neighbor):
 
 
 class Router(Speaker):
-    """What a file in the language of BIRD says. `included` are the files that it includes."""
+    """What a file in the language of BIRD says. `included` are the files that it includes, `reasons` why what it says is
+    refused."""
 
     language = "BIRD"
 
-    def __init__(self, name):
+    def __init__(self, name, reasons):
         super().__init__(name)
-        self.directs, self.questions, self.included = [], None, set()
+        self.directs, self.questions, self.included, self.reasons = [], None, set(), reasons
 
     # ---- what its protocols say
 
     def take_protocol(self, protocol):
-        """Takes what a protocol says; one that is disabled says nothing but its neighbor."""
-        if protocol.kind == "bgp":
+        """Takes what a protocol says; one that is disabled says nothing but its neighbor, one that is not whole nothing
+        but the router's number."""
+        if not protocol.is_whole:
+            if "local as" in protocol.said:
+                self.take_number(protocol, protocol.said["local as"])
+        elif protocol.kind == "bgp":
             self.take_bgp(protocol)
         elif protocol.kind == "static":
             self.take_static(protocol)
@@ -102,10 +108,7 @@ class Router(Speaker):
             return
         if side is not None and side.name == "internal" or other is not None and other.name == own.name:
             raise refusal((other or side).place, "iBGP: every router is an AS of its own")
-        if self.asn not in (None, own.name):
-            raise refusal(own.place, f"a second AS: {self.asn_place} has {self.asn}")
-        if self.asn is None:
-            self.asn, self.place, self.asn_place = own.name, protocol.place, own.place
+        self.take_number(protocol, own)
         if "ipv6" in protocol.said:
             if "ipv4" in protocol.channels:
                 raise refusal(protocol.said["ipv6"].place, "a neighbor with an address of IPv6: sessions are IPv4")
@@ -113,44 +116,72 @@ class Router(Speaker):
             return
         self.take_peer(protocol, Line("external" if other is None else other.name, (other or side).place))
 
+    def take_number(self, protocol, own):
+        """Takes the AS number that a protocol says to be the router's."""
+        if self.asn not in (None, own.name):
+            raise refusal(own.place, f"a second AS: {self.asn_place} has {self.asn}")
+        if self.asn is None:
+            self.asn, self.place, self.asn_place = own.name, protocol.place, own.place
+
     def take_peer(self, protocol, asn):
         peer = Peer(protocol, asn)
+        for words in RESTARTS:
+            if protocol.value(words):
+                self.keeps_routes = True
+                self.warn(protocol.said[words].place, f"'{words}': the neighbor keeps this router's routes while it "
+                          "restarts, 120 seconds if nothing else is said: what is said here of a crash and of a silent "
+                          "failure is not what happens meanwhile")
         if peer.channel is not None:
-            self.check_channel(peer)
+            for check in (self.check_table, self.check_hop, self.check_gateway, self.check_server, self.check_out):
+                self.reasons.attempt(check, peer)
         first = self.neighbors.setdefault(peer.address, peer)
         if first is not peer:
             self.warn(peer.place, f"protocol {peer.name}: {first.place} has this neighbor too, and comes first: there "
                                   "is no session")
 
-    @staticmethod
-    def check_policies(protocol, is_internal):
+    def check_policies(self, protocol, is_internal):
         """Refuses a channel without a policy, as BIRD does (RFC 8212)."""
         for family, channel in protocol.channels.items():
             for direction in ("import", "export"):
                 if not is_internal and family in ("ipv4", "ipv6") and direction not in channel.policies:
-                    raise refusal(channel.end, f"protocol {protocol.name}: no {direction} policy in its channel "
-                                               f"{family}: BIRD does not take it")
+                    self.reasons.add(refusal(channel.end, f"protocol {protocol.name}: no {direction} policy in its "
+                                                          f"channel {family}: BIRD does not take it"))
+                    channel.policies[direction] = Line(False, channel.end)
 
-    def check_channel(self, peer):
-        """Refuses what depends on whether next hops are reached, and other tables."""
-        said = peer.channel.said
-        if "table" in said:
-            raise refusal(said["table"].place, f"table {said['table'].name}: another table than master4: one is read")
-        if "hop" in said and peer.is_direct:
-            raise refusal(said["hop"].place, f"'{said['hop'].name}': the neighbor takes the route only if it reaches "
-                                             "the next hop, which is not known here")
-        if "hop" in said:
-            self.warn(said["hop"].place, f"'{said['hop'].name}' is not read")
-        if "gateway" in said and (said["gateway"].name == "direct") != peer.is_direct:
-            raise refusal(said["gateway"].place, "gateway: whether a next hop is reached is not known here")
+    # What depends on whether next hops are reached, and other tables.
+
+    @staticmethod
+    def check_table(peer):
+        line = peer.channel.said.get("table")
+        if line:
+            raise refusal(line.place, f"table {line.name}: another table than master4: one is read")
+
+    def check_hop(self, peer):
+        line = peer.channel.said.get("hop")
+        if line and peer.is_direct:
+            raise refusal(line.place, f"'{line.name}': the neighbor takes the route only if it reaches the next hop, "
+                                      "which is not known here")
+        if line:
+            self.warn(line.place, f"'{line.name}' is not read")
+
+    @staticmethod
+    def check_gateway(peer):
+        line = peer.channel.said.get("gateway")
+        if line and (line.name == "direct") != peer.is_direct:
+            raise refusal(line.place, "gateway: whether a next hop is reached is not known here")
+
+    @staticmethod
+    def check_server(peer):
         if peer.option("rs client") and peer.is_direct and not peer.is_own_hop():
             raise refusal(peer.protocol.said["rs client"].place, "rs client: the next hop is kept, and whether the "
                           "client reaches it by its own interfaces is not known here")
+
+    def check_out(self, peer):
         for routine in self.routines_of(peer.policy("export")):
             for node in routine.body.walk():
                 if node.op in ("set attribute", "unset") and node.args[0] == "bgp_next_hop":
-                    raise refusal(node.place, "bgp_next_hop is set outwards: the neighbor takes the route only if it "
-                                              "reaches the next hop, which is not known here")
+                    self.reasons.add(refusal(node.place, "bgp_next_hop is set outwards: the neighbor takes the route "
+                                                         "only if it reaches the next hop, which is not known here"))
 
     @staticmethod
     def routines_of(policy):
@@ -165,10 +196,11 @@ class Router(Speaker):
         for prefix, kind, body, place in protocol.routes:
             other = self.networks.get(prefix)
             if other:
-                raise refusal(place, f"a second route for {prefix}: the first is at {other.place}")
-            if is_bogus(prefix):
-                raise refusal(place, f"{prefix}: no network of hosts, and peers pass it over")
-            self.networks[prefix] = Network(prefix, protocol, kind, body, place)
+                self.reasons.add(refusal(place, f"a second route for {prefix}: the first is at {other.place}"))
+            elif is_bogus(prefix):
+                self.reasons.add(refusal(place, f"{prefix}: no network of hosts, and peers pass it over"))
+            else:
+                self.networks[prefix] = Network(prefix, protocol, kind, body, place)
 
     def take_foreign(self, protocol):
         """What other protocols are: passed over, or refused where routes of theirs could be told."""
@@ -185,16 +217,16 @@ class Router(Speaker):
     def finish(self):
         """What is known when all is read."""
         if self.router_id is None:
-            raise refusal(self.place, "no line 'router id': BIRD takes an address of an interface, which is not known "
-                                      "here")
-        if not self.router_id.name:
-            raise refusal(self.router_id.place, "the router id is 0")
+            self.reasons.add(refusal(self.place, "no line 'router id': BIRD takes an address of an interface, which is "
+                                                 "not known here"))
+        elif not self.router_id.name:
+            self.reasons.add(refusal(self.router_id.place, "the router id is 0"))
         for direct in self.directs:
             told = next((peer for peer in self.neighbors.values()
                          if peer.channel and peer.policy("export") is True), None)
             if told:
-                raise refusal(direct.place, f"protocol direct: the routes of interfaces, which are not known here, are "
-                                            f"told by 'export all' at {told.place}")
+                self.reasons.add(refusal(direct.place, "protocol direct: the routes of interfaces, which are not known "
+                                                       f"here, are told by 'export all' at {told.place}"))
             self.warn(direct.place, "protocol direct is not read: the routes of interfaces are told where an export "
                                     "filter takes them")
         self.check_hops()
@@ -205,8 +237,9 @@ class Router(Speaker):
         for prefix, network in self.networks.items():
             covered = [peer for peer in far if choice.covers(prefix, peer.address)]
             if covered and (len(covered) < len(self.neighbors) or network.kind == 3):
-                raise refusal(network.place, f"{prefix} covers the address of neighbor {covered[0].key} over multihop: "
-                                             "its routes are reached, and liked better than others")
+                self.reasons.add(refusal(network.place, f"{prefix} covers the address of neighbor {covered[0].key} "
+                                                        "over multihop: its routes are reached, and liked better than "
+                                                        "others"))
 
     # ---- what a set asks
 
@@ -344,6 +377,9 @@ class Router(Speaker):
         if not (neighbor.is_active and far.neighbor.is_active):
             return neighbor.place, (f"protocol {neighbor.name}: there is no channel ipv4 at both ends, the other is "
                                     f"{far.neighbor.place}: there is no session")
+        if neighbor.value("passive") and far.neighbor.value("passive"):
+            return neighbor.line("passive").place, (f"protocol {neighbor.name}: both ends are passive, the other is "
+                                                    f"{far.neighbor.place}: there is no session")
         why = mismatch(neighbor, far)
         return (neighbor.place, f"protocol {neighbor.name}: {why}: there is no session") if why else None
 

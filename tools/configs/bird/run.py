@@ -19,10 +19,11 @@ def divide(one, other):
     return one // other
 
 
-def below(one, other, most):
-    """Whether one value is below another, or is at most that."""
+def below(one, other, answers):
+    """Whether the comparison of two values answers so. BIRD looks for -1, or for what is not 1, also of texts, whose
+    comparison answers other numbers too."""
     try:
-        return compare(one, other) <= most
+        return answers(compare(one, other))
     except Incomparable:
         raise Failure(f"{type_of(one)} and {type_of(other)} can't be compared") from None
 
@@ -174,13 +175,13 @@ def net_type(value):
 ACTS = {
     "ADD": lambda a, b: (a + b) & MOST, "SUBTRACT": lambda a, b: (a - b) & MOST,
     "MULTIPLY": lambda a, b: (a * b) & MOST, "DIVIDE": divide, "EQ": are_same,
-    "NEQ": lambda a, b: not are_same(a, b), "LT": lambda a, b: below(a, b, -1),
-    "LTE": lambda a, b: below(a, b, 0), "MATCH": matches, "NOT_MATCH": lambda a, b: not matches(a, b),
+    "NEQ": lambda a, b: not are_same(a, b), "LT": lambda a, b: below(a, b, lambda found: found == -1),
+    "LTE": lambda a, b: below(a, b, lambda found: found != 1), "MATCH": matches, "NOT_MATCH": lambda a, b: not matches(a, b),
     "NOT": lambda a: not a, "PAIR_CONSTRUCT": construct_pair, "LC_CONSTRUCT": lambda a, b, c: Triple((a, b, c)),
     "LENGTH": length, "AS_PATH_FIRST": lambda a: a[0] if a else 0, "AS_PATH_LAST": lambda a: a[-1] if a else 0,
     "AS_PATH_LAST_NAG": lambda a: a[-1] if a else 0, "ASN": asn_of, "PAIR_DATA": lambda a: a & MOST_HALF,
     "LC_DATA1": lambda a: a[1], "LC_DATA2": lambda a: a[2], "MIN": extreme(min), "MAX": extreme(max),
-    "IP": lambda a: Address(a.address), "IP_MASK": lambda a, b: Address(a & mask_of(min(b, 32))),
+    "IP": lambda a: Address(a.address), "IP_MASK": lambda a, b: Address(a & mask_of(b if b <= 32 else b % 32 or 32)),
     "IS_V4": lambda a: type(a) is Address, "TYPE": net_type,
     "PATH_PREPEND": lambda a, b: Path((b,) + a), "CLIST_ADD": added, "CLIST_DEL": lambda a, b: sifted(a, b, False),
     "CLIST_FILTER": lambda a, b: sifted(a, b, True), "FORMAT": str,

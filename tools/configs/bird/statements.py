@@ -24,8 +24,6 @@ from configs.bird.values import EMPTY
 class Statements(Terms):
     """Reads filters and functions."""
 
-    routine = None
-
     # ---- routines
 
     def filter_body(self, kind, name, place):

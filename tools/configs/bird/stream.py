@@ -1,14 +1,22 @@
 """A walk through the tokens of a file, as every part of the grammar takes them."""
 from configs.bird.nodes import Scopes
 from configs.bird.tokens import Token, written
-from configs.places import Place, refusal
+from configs.places import Passed, Place, Reasons, refusal
+from program import Refusal
+
+
+# What begins an item that ends with its braces.
+BRACED = ("function", "filter", "protocol", "template")
 
 
 class Stream:
-    """Tokens with a place among them, and the names that are defined so far."""
+    """Tokens with a place among them, and the names that are defined so far. `reasons` has what is refused, and `lost`
+    names whose definitions were: what hangs on these is not refused by itself."""
+
+    routine = None
 
     def __init__(self, tokens, name):
-        self.tokens, self.at, self.scopes = tokens, 0, Scopes()
+        self.tokens, self.at, self.scopes, self.lost, self.reasons = tokens, 0, Scopes(), set(), Reasons()
         self.last = Token("end", "the end of the file", tokens[-1].place if tokens else Place(name, 1))
 
     @property
@@ -62,11 +70,66 @@ class Stream:
     def known(self, kinds, what):
         """The symbol of the next name, which has to be defined above."""
         token = self.of_kind("name", what)
-        symbol = self.scopes.find(token.value)
+        symbol = self.found(token)
         if symbol is None or symbol.kind not in kinds:
             self.refuse(f"there is no {what} '{token.value}' above", token.place)
         return symbol
 
     def symbol(self):
         """The symbol of the next token, where that is a name that is defined, or None."""
-        return self.scopes.find(self.token.value) if self.token.kind == "name" else None
+        return self.found(self.token) if self.token.kind == "name" else None
+
+    def found(self, token):
+        """The symbol of a name, or None. What hangs on a name whose definition was refused is passed over."""
+        symbol = self.scopes.find(token.value)
+        if symbol is None and token.value in self.lost:
+            raise Passed
+        return symbol
+
+    # ---- what is refused
+
+    def try_to_read(self, read, skip):
+        """Reads something, and says whether it is taken. Where it is refused the reason is kept, and it is passed over."""
+        begin, routine, levels = self.at, self.routine, [dict(level) for level in self.scopes.levels]
+        try:
+            read()
+            return True
+        except Passed:
+            pass
+        except RecursionError:
+            self.reasons.add(refusal(self.place, "what stands here is nested too deep"))
+        except Refusal as why:
+            self.reasons.add(why)
+        self.routine, self.scopes.levels = routine, levels
+        skip(begin)
+        return False
+
+    def skip_item(self, begin):
+        """Passes over an item of the file that begins at a token: up to the brace that ends it, or to a semicolon. The
+        name that it defines is lost."""
+        first = self.tokens[begin]
+        self.lost.update([token.value for token in self.tokens[begin:begin + 4] if token.kind == "name"][:1])
+        self.at = begin
+        if first.value in BRACED and first.kind == "word":
+            self.skip_to("{")
+            self.next()
+            self.skip_to("}")
+        else:
+            self.skip_to(";", "}")
+        self.next()
+
+    def skip_option(self, begin):
+        """Passes over an option of a protocol or a channel that begins at a token, with the semicolon behind it."""
+        self.at = begin
+        self.skip_to(";", "}")
+        self.take(";")
+
+    def skip_to(self, *ends):
+        """Passes what stands in front of a sign, with the braces that open and close there."""
+        depth = 0
+        while self.token.kind != "end" and not (depth == 0 and self.is_next(*ends)):
+            if self.is_next("{"):
+                depth += 1
+            elif self.is_next("}"):
+                depth -= 1
+            self.next()

@@ -68,9 +68,14 @@ class Lexer:
         self.files.pop()
 
     def include(self, pattern, place):
-        """Takes the files of a pattern, in the order of their names."""
+        """Takes the files of a pattern, in the order of their names; folders among them are passed over."""
         whole = os.path.join(os.path.dirname(place.file), pattern)
-        names = sorted(glob.glob(whole)) if glob.has_magic(pattern) else [whole]
+        folder = os.path.dirname(whole) or "."
+        names = [whole]
+        if glob.has_magic(pattern):
+            if not glob.has_magic(folder) and not os.path.isdir(folder):
+                raise refusal(place, f"'include': {folder}: No such file or directory")
+            names = sorted(name for name in glob.glob(whole) if not os.path.isdir(name))
         for name in names:
             try:
                 text = self.read(name)

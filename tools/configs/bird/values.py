@@ -98,8 +98,14 @@ def pair_of(asn, data):
     return Pair(asn << 16 | data)
 
 
+def compare_texts(one, other):
+    """By how much the first octets that differ do so; the end of a text is 0."""
+    return next((ord(left) - ord(right) for left, right in zip(one + "\0", other + "\0") if left != right), 0)
+
+
 def compare(one, other):
-    """-1, 0 or 1. What is undefined stands below every value; values of two types have no order."""
+    """-1, 0 or 1, of texts how far they are apart. What is undefined stands below every value; values of two types have
+    no order."""
     if type(one) is Quad and type(other) is Address or type(one) is Address and type(other) is Quad:
         one, other = int(one), int(other)
     if one is None or other is None:
@@ -107,7 +113,7 @@ def compare(one, other):
     if type(one) is not type(other) or type(one) in (Path, Clist, Lclist, Eclist) or hasattr(one, "type") or \
             isinstance(one, Enum) and one.kind != other.kind:
         raise Incomparable
-    return (one > other) - (one < other)
+    return compare_texts(one, other) if type(one) is str else (one > other) - (one < other)
 
 
 def are_same(one, other):
