@@ -4,4 +4,5 @@ mod ChangeLemmas
 mod OneLemmas
 mod SettleLemmas
 mod ExampleLemmas
+mod EverywhereLemmas
 mod TurningLemmas

@@ -2,4 +2,5 @@ pub mod Bounds
 pub mod Changes
 pub mod Settling
 pub mod Examples
+pub mod Everywhere
 pub mod Turning

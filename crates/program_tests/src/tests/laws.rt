@@ -7,6 +7,7 @@ use stable_runs::laws::{printed_are_listed, settled_are_listed};
 use stable_search::laws::{none_without_origin, stable_assignments_are_counted};
 use text_engines::laws::{check_prints_one_text, decode_prints_one_text};
 use trace_engine::laws::{traces_play_back, traces_spell_their_runs};
+use wheel_runs::laws::{routers_change_seldom, safe_settle_in_one};
 use why_engine::laws::each_router_has_one_text;
 
 // Calls each law once.
@@ -23,6 +24,8 @@ fn each_law_holds_at_a_type() {
     records_play_back();
     settled_are_listed::<ScriptGate>();
     printed_are_listed();
+    routers_change_seldom::<ScriptGate>();
+    safe_settle_in_one::<ScriptGate>();
     stable_assignments_are_counted();
     none_without_origin();
 }

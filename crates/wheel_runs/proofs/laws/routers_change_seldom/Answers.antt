@@ -1,9 +1,11 @@
 -- By the run of the laws beside each run, and the bound of that.
 use Rattle.wheel_runs.proofs.ChangeLemmas.{Laws, runs_change_seldom, safe_runs_are_bounded}
+use Rattle.wheel_runs.proofs.EverywhereLemmas.{of_worlds, of_records, each_run}
+use Rattle.wheel_runs.specs.Everywhere.{EachChangesSeldom}
 use Rattle.wheel_runs.proofs.laws.routers_change_seldom.Goals as goal
 
 pub returns : goal.returns
-returns c =
+returns g c =
     let laws : Laws = record {
       permits = c.policies_are_tests.ensures.permits;
       prefers = c.policies_are_tests.ensures.prefers;
@@ -20,5 +22,7 @@ returns c =
     let runs = runs_change_seldom laws in
     record {
       runs = runs;
+      worlds = of_worlds EachChangesSeldom (each_run runs);
+      records = of_records EachChangesSeldom (each_run runs) g.G.Gate.given c.records_are_runs.ensures.promises;
       bounded = safe_runs_are_bounded runs c.safe_have_bounds.ensures.bounds;
     }
