@@ -2,3 +2,4 @@ pub mod CallLemmas
 pub mod LawLemmas
 pub mod RunLemmas
 pub mod TextLemmas
+pub mod NoteLemmas

@@ -32,6 +32,7 @@ use Rattle.world_core.specs.Watching.{StepText, EventsText, BehindRound, RoundsT
 use Rattle.world_core.proofs.WatchedRounds.{reached_is}
 use Rattle.trace_engine.specs.Tracing.{EventLines, round_line, place_text, head_line, head_text, idle_line, counted_line, ticked_line, tail_text, count_of, OrderText, OrdersText}
 use Rattle.schedule_text.proofs.LineLemmas.{shown_both, decimal_shown, are_shown, IsNamed, named_from, number_from, Says, says_none, says_both, says_nothing, says_comments}
+use Rattle.trace_engine.proofs.NoteLemmas.{are_comments}
 use Rattle.schedule_text.proofs.EventLemmas.{IsOriginated, MaySay, event_said}
 use Rattle.schedule_text.proofs.ObeyingLemmas.{played_parts}
 use Rattle.schedule_text.proofs.NameLemmas.{named_of, canonical_by}
@@ -157,7 +158,7 @@ module _ (g : Setting) (network : IsNetwork g.net) where
         → onward (world_of g w x at a) (λ next. played g next (at + 1) xs) ≡ Ok y → StepText EventLines g w x a (λ next t. EventsText EventLines g next xs t) text → SaysDone w y text
     done_by (Does u e stamp) w y x xs at text is speaks go h s =
         let k = go (world_after g w x u e stamp) s.1 h s.3 in
-        let line = says_both g.net (event_line x) s.2.0 (x ∷ []) [] (event_said feeds read g.net x (speaks w u e stamp is)) (says_comments feeds g.net s.2.0 s.2.1) in
+        let line = says_both g.net (event_line x) s.2.0 (x ∷ []) [] (event_said feeds read g.net x (speaks w u e stamp is)) (says_comments feeds g.net s.2.0 (are_comments s.2.0 s.2.1)) in
         let whole = says_both g.net s.0 s.1 (x ∷ []) k.done (subst (λ (t : List ℕ). Says g.net t (x ∷ [])) (sym s.2.2) line) k.says in
         record { done = x ∷ k.done; run = k.run ∙ append_assoc w.run (x ∷ []) k.done; says = subst (λ (t : List ℕ). Says g.net t (x ∷ k.done)) (sym s.4) whole }
     done_by Nothing w y x xs at text is speaks go h s = go w text h s

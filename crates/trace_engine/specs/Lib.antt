@@ -1,3 +1,4 @@
 pub mod Laws
+pub mod Noting
 pub mod Tracing
 pub mod Tracings

@@ -19,14 +19,14 @@ use Rattle.schedule_text.specs.declared.report.RefusedOrder.{RefusedOrder}
 use Rattle.schedule_text.specs.Obeying.{LeadTo, IsFirstRefused}
 use Rattle.text_engines.specs.declared.status.TheConstants.{DONE, REFUSED}
 use Rattle.text_engines.specs.Decoding.{Output, output}
-use Rattle.net_text.specs.Comments.{AreComments}
 use Rattle.text_engines.specs.Engine.{limited}
+use Rattle.trace_engine.specs.Noting.{AreNotes}
 
 -- ---- events and rounds
 
 -- the line of an event that was done, with comments behind it
 abbrev pub EventLines : Event → List ℕ → Type 0
-EventLines event text = (comments : List ℕ) × AreComments comments × (text ≡ event_line event ++ comments)
+EventLines event text = (comments : List ℕ) × AreNotes comments × (text ≡ event_line event ++ comments)
 
 -- the line that says how many events a round had
 unfoldable pub round_line : ℕ → ℕ → List ℕ

@@ -10,6 +10,7 @@ mod comments;
 pub mod laws;
 mod lines;
 mod notes;
+mod noting;
 mod orders;
 mod stream;
 mod tracer;

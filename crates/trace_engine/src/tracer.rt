@@ -5,7 +5,7 @@ ghost use Rattle.trace_engine.specs.Tracing.{EventLines, round_line};
 
 use crate::comments::put_round;
 use crate::notes::Notes;
-use net_text::put_comments;
+use crate::noting::put_notes;
 use schedule_text::event_line;
 use std::alloc::AllocError;
 use world_core::{Event, Watch, World};
@@ -34,7 +34,7 @@ impl Watch for Tracer {
     fn behind_event(&mut self, world: &World<'_>, event: &Event) -> Result<(), AllocError> {
         self.notes.behind(world, event)?;
         event_line(event, &mut self.out)?;
-        put_comments(self.notes.text(), &mut self.out)
+        put_notes(self.notes.text(), &mut self.out)
     }
 
     fn behind_round(&mut self, number: u32, count: usize) -> Result<(), AllocError> {

@@ -2,9 +2,9 @@ use Rattle.std.proofs.Common.{◌≡◌, ◌++◌, List, ℕ, Ok, Err, refl, ap,
 use Rattle.std.specs.Prelude.{Result, OnOk}
 use Rattle.world_core.specs.Watching.{Adds}
 use Rattle.net_text.specs.Lexing.{lines_of}
-use Rattle.net_text.specs.Comments.{comments_text}
 use Rattle.schedule_text.specs.Events.{event_line}
-use Rattle.schedule_text.proofs.LineLemmas.{all_comments}
+use Rattle.schedule_text.proofs.LineLemmas.{one_lines}
+use Rattle.trace_engine.specs.Noting.{notes_text}
 use Rattle.trace_engine.specs.Tracing.{EventLines}
 use Rattle.trace_engine.proofs.tracer.TracerWatch.behind_event.Goals as goal
 
@@ -17,9 +17,9 @@ pub returns-clause-ok : goal.returns-clause-ok
 returns-clause-ok c =
     let old = c.args.self.now.out.items in
     let mid = c.event_line.new.out.items in
-    let new = c.put_comments.new.out.items in
+    let new = c.put_notes.new.out.items in
     let line = event_line c.args.event.now in
-    let comments = comments_text (lines_of c.text.result.now) in
-    on_ok c.put_comments.result (new ≡ mid ++ comments) (Adds old new (EventLines c.args.event.now))
-    (λ last. (line ++ comments, (comments, all_comments c.text.result.now comments refl, refl), last ∙ ap (λ (t : List ℕ). t ++ comments) c.in_ok-event_line.ensures.ok ∙ append_assoc old line comments))
-    c.put_comments.ensures.ok
+    let comments = notes_text (lines_of c.text.result.now) in
+    on_ok c.put_notes.result (new ≡ mid ++ comments) (Adds old new (EventLines c.args.event.now))
+    (λ last. (line ++ comments, (comments, record { lines = lines_of c.text.result.now; are_lines = one_lines c.text.result.now; are = refl }, refl), last ∙ ap (λ (t : List ℕ). t ++ comments) c.in_ok-event_line.ensures.ok ∙ append_assoc old line comments))
+    c.put_notes.ensures.ok
