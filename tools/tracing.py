@@ -8,6 +8,8 @@ from network import Prefix, parts_of, read_path, words_of
 # The comment behind a line of rounds.
 ENDED = re.compile(r"# line (\d+): (\d+) events?, (rest behind|no rest by) round (\d+)")
 
+# The events that are commands.
+COMMANDS = ("start", "stop", "reset", "originate", "withdraw", "restart", "snapshot")
 # The events of one session.
 OF_SESSIONS = ("start", "stop", "reset", "put", "take", "handle")
 
@@ -94,6 +96,8 @@ class Moment:
                 self.silence[event.router, peer] += 1
         elif event.words[0] == "take":
             self.silence[event.router, int(event.words[2])] = 0
+        elif event.words[0] == "restart":
+            self.kept.update({(event.router, prefix): () for prefix in self.network.origins})
         for said in event.said:
             word, *words = said.split(" ")
             if word == "keeps":
