@@ -101,7 +101,7 @@ class Documents(unittest.TestCase):
 
     def test_each_tool_has_a_help_with_an_example(self):
         for tool in ("ask", "streams", "topology", "settle", "lint", "whatif", "config", "beside", "beside_frr", "draw", "film",
-                     "chart", "handout", "pictures", "test"):
+                     "chart", "player", "handout", "pictures", "test"):
             path = TOP / "tools" / tool
             self.assertTrue(os.access(path, os.X_OK))
             done = subprocess.run([path, "--help"], capture_output=True, text=True)

@@ -54,7 +54,7 @@ class Hostile(unittest.TestCase):
     def test_texts(self):
         draw = random.Random(1)
         for tool, words, number in (("lint", ["-"], 30), ("draw", ["-"], 20), ("film", ["-", "--each"], 14),
-                                    ("chart", ["-"], 14), ("settle", ["-", "--timing"], 14), ("ask", ["-", "play"], 14),
+                                    ("chart", ["-"], 14), ("player", ["-"], 10), ("settle", ["-", "--timing"], 14), ("ask", ["-", "play"], 14),
                                     ("whatif", ["-", "--fail", "1-2", "--back", "--orders", "1"], 10)):
             for text in texts(draw, number):
                 self.ends(tool, *words, given=text)
