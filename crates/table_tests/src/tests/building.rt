@@ -4,9 +4,10 @@ use super::*;
 use bgp_values::Width;
 use ranked_policy::{NetRouter, Origin};
 use std::process::Abort;
-use std::test::Fail;
 
 type Answer = Result<(), NetError>;
+
+const TAKEN: Answer = Ok(());
 
 const REPEATED: Answer = Err(NetError::Repeated);
 
@@ -18,12 +19,9 @@ const BAD_NUMBER: Answer = Err(NetError::BadNumber);
 
 const NOT_SIMPLE: Answer = Err(NetError::NotSimple);
 
-// Whether a builder answers what is wanted.
-fn is(answer: Answer, want: Answer) -> bool {
-    answer == want
-}
+const TOO_LONG: Answer = Err(NetError::TooLong);
 
-static CASES: [(u16, usize, usize, bool); 8] = [
+static SETTINGS_OF_ALL_KINDS: [(u16, usize, usize, bool); 8] = [
     (0, 1, 1, true),
     (3, 4096, 1024, true),
     (65535, 4096, 64, true),
@@ -44,7 +42,7 @@ fn are_judged(alloc: Global, settings: Settings, good: bool) -> bool {
 
 #[test]
 fn settings_outside_the_limits_are_refused(rt: HostRuntime) {
-    for &(hold, cut, pipe, good) in &CASES {
+    for &(hold, cut, pipe, good) in &SETTINGS_OF_ALL_KINDS {
         let settings = Settings {
             hold,
             restart: 7,
@@ -59,17 +57,157 @@ fn settings_outside_the_limits_are_refused(rt: HostRuntime) {
     }
 }
 
-static ROUTERS: [(Asn, u32, Answer); 9] = [
-    (1, TEN | 9, REPEATED),
-    (9, TEN | 1, REPEATED),
-    (0, TEN | 1, REPEATED),
-    (0, TEN | 9, BAD_NUMBER),
-    (65536, TEN | 9, BAD_NUMBER),
-    (9, 9, BAD_NUMBER),
-    (9, 0xe000_0001, BAD_NUMBER),
-    (65535, 0xdfff_ffff, Ok(())),
-    (9, 0x0100_0000, Ok(())),
+/// What is given to a builder, or asked of it.
+enum Step {
+    /// The routers, links, origins and rules of a plan are taken.
+    Takes(Plan),
+    /// Routers 1 to this one are taken, and the links of each with the next.
+    Line(u32),
+    /// A router with this number and this identifier is answered so.
+    Router(Asn, u32, Answer),
+    Link(Asn, Asn, Answer),
+    /// Links of router 1 with each from this router to below that one are taken.
+    LinksOfOne(Asn, Asn),
+    Origin(Asn, At, Answer),
+    /// Router 1 is taken as origin of 0.0.254.0/24, and of the 254 prefixes of this length before it, the last first.
+    ManyOrigins,
+    /// A rule of a router is answered so.
+    Rule(Asn, At, &'static [&'static [Asn]], Answer),
+    /// A rule of router 1 for 0.0.0.0/0, whose paths are those to each router from 2 to below this one.
+    RuleOfWays(Asn, Answer),
+    /// Rules of router 1 without paths, for 0.0.2.0/24 to 0.0.63.0/24, are taken.
+    ManyRules,
+    /// The numbers of the routers rise, from 1 on, up to this one.
+    RoutersRise(Asn),
+    /// There are so many origins, and their prefixes rise.
+    OriginsRise(usize),
+}
+
+/// What a builder comes to: it is refused as it finishes, or a network of so many routers.
+type End = Result<usize, NetError>;
+
+/// What builders are given, stage by stage; each stage ends as the builder finishes, and one that is refused goes on.
+struct Case {
+    name: &'static str,
+    stages: &'static [(&'static [Step], End)],
+}
+
+#[rattlefmt::skip]
+static CASES: [Case; 7] = [
+    Case { name: "faulty routers are refused", stages: &[(&[
+        Step::Line(2),
+        Step::Router(1, TEN | 9, REPEATED),
+        Step::Router(9, TEN | 1, REPEATED),
+        Step::Router(0, TEN | 1, REPEATED),
+        Step::Router(0, TEN | 9, BAD_NUMBER),
+        Step::Router(65536, TEN | 9, BAD_NUMBER),
+        Step::Router(9, 9, BAD_NUMBER),
+        Step::Router(9, 0xe000_0001, BAD_NUMBER),
+        Step::Router(65535, 0xdfff_ffff, TAKEN),
+        Step::Router(9, 0x0100_0000, TAKEN),
+        Step::RoutersRise(65535),
+    ], Err(NetError::NotConnected))] },
+    Case { name: "a router past the 64th is refused", stages: &[(&[
+        Step::Line(64),
+        Step::Router(65, TEN | 65, LIMIT),
+        Step::Router(1, TEN | 65, REPEATED),
+        Step::Router(0, TEN | 65, LIMIT),
+    ], Ok(64))] },
+    Case { name: "faulty links are refused", stages: &[(&[
+        Step::Line(18),
+        Step::Link(1, 2, REPEATED),
+        Step::Link(2, 1, REPEATED),
+        Step::Link(3, 3, REPEATED),
+        Step::Link(99, 99, REPEATED),
+        Step::Link(1, 99, UNKNOWN),
+        Step::Link(99, 1, UNKNOWN),
+        Step::LinksOfOne(3, 18),
+        Step::Link(1, 18, LIMIT),
+        Step::Link(18, 1, LIMIT),
+    ], Ok(18))] },
+    Case { name: "faulty origins are refused", stages: &[(&[
+        Step::Line(2),
+        Step::Origin(9, (TEN, 8), UNKNOWN),
+        Step::Origin(2, (TEN, 8), TAKEN),
+        Step::Origin(2, (TEN, 8), REPEATED),
+        Step::Origin(1, (TEN, 8), REPEATED),
+        Step::Origin(9, (TEN, 8), REPEATED),
+        Step::ManyOrigins,
+        Step::Origin(1, (TEN, 9), LIMIT),
+        Step::Origin(2, (0, 24), REPEATED),
+        Step::OriginsRise(256),
+    ], Ok(2))] },
+    Case { name: "faulty rules are refused", stages: &[(&[
+        Step::Takes(DISAGREE),
+        Step::Rule(2, (TEN, 9), &[&[2, 3, 2]], NOT_SIMPLE),
+        Step::Rule(2, (TEN, 9), &[&[3, 1]], NOT_SIMPLE),
+        Step::Rule(9, (TEN, 9), &[&[9, 9]], NOT_SIMPLE),
+        Step::Rule(2, (TEN, 9), &[&[2, 1], &[2, 3], &[2, 1]], REPEATED),
+        Step::Rule(9, (TEN, 9), &[&[9, 1]], UNKNOWN),
+        Step::Rule(2, (TEN, 9), &[&[2, 9]], UNKNOWN),
+        Step::Rule(9, (TEN, 9), &[], UNKNOWN),
+        Step::Rule(2, (TEN, 9), &[], TAKEN),
+        Step::Rule(2, (TEN, 9), &[], REPEATED),
+    ], Ok(4))] },
+    // A router has at most 64 rules, a rule at most 32 paths, a path at most 16 routers.
+    Case { name: "rules past a limit are refused", stages: &[(&[
+        Step::Line(40),
+        Step::Rule(1, (TEN, 1), &[&[1, 2, 3, 4, 5, 6, 7, 8, 9, 10, 11, 12, 13, 14, 15, 16]], TAKEN),
+        Step::Rule(1, (TEN, 2), &[&[1, 2, 3, 4, 5, 6, 7, 8, 9, 10, 11, 12, 13, 14, 15, 16, 17]], TOO_LONG),
+        Step::RuleOfWays(35, LIMIT),
+        Step::RuleOfWays(34, TAKEN),
+        Step::ManyRules,
+        Step::Rule(1, (64 << 8, 24), &[], LIMIT),
+    ], Ok(40))] },
+    Case { name: "a network in two parts is given back", stages: &[
+        (&[], Err(NetError::Limit)),
+        (&[
+            Step::Router(1, TEN | 1, TAKEN),
+            Step::Router(2, TEN | 2, TAKEN),
+            Step::Router(3, TEN | 3, TAKEN),
+            Step::Link(1, 2, TAKEN),
+        ], Err(NetError::NotConnected)),
+        (&[Step::Link(3, 2, TAKEN)], Ok(3)),
+    ] },
 ];
+
+fn push_line(net: &mut NetBuilder, count: u32) -> Answer {
+    push_routers(net, count)?;
+    for i in 1..count {
+        adds_link(net, i, i.wrapping_add(1))?;
+    }
+    Ok(())
+}
+
+fn push_links_of_one(net: &mut NetBuilder, first: Asn, last: Asn) -> Answer {
+    for i in first..last {
+        adds_link(net, 1, i)?;
+    }
+    Ok(())
+}
+
+fn push_many_origins(net: &mut NetBuilder) -> Answer {
+    for i in 0..255u32 {
+        adds_origin(net, 1, (254u32.wrapping_sub(i) << 8, 24))?;
+    }
+    Ok(())
+}
+
+fn push_many_rules(alloc: Global, net: &mut NetBuilder) -> Answer {
+    for i in 2..64u32 {
+        adds_rule(net, 1, (i << 8, 24), Ok(Vec::new(alloc)))?;
+    }
+    Ok(())
+}
+
+/// The paths of router 1 to each from 2 to below `last`.
+fn ways_of_two(alloc: Global, last: Asn) -> Result<Vec<Path>, AllocError> {
+    let mut list = Vec::new(alloc);
+    for i in 2..last {
+        list.push(Path::from_slice(alloc, &[1, i])?)?;
+    }
+    Ok(list)
+}
 
 // Whether the numbers rise, from 1 on, up to the last.
 fn rise_to(routers: &[NetRouter], greatest: Asn) -> bool {
@@ -81,109 +219,6 @@ fn rise_to(routers: &[NetRouter], greatest: Asn) -> bool {
         last = router.asn;
     }
     last == greatest
-}
-
-fn router_refusals_in(rt: &impl Abort, net: &mut NetBuilder) {
-    for &(asn, id, want) in &ROUTERS {
-        assert!(rt; is(adds_router(net, asn, id), want), "{asn} {id:x}");
-    }
-    assert!(rt; rise_to(net.routers(), 65535));
-}
-
-#[test]
-fn faulty_routers_are_refused(rt: HostRuntime) -> Result<(), Fail> {
-    let mut net = line(rt.alloc(), 2)?;
-    router_refusals_in(&rt, &mut net);
-    Ok(())
-}
-
-static BEHIND_THE_LAST: [(Asn, Answer); 3] = [(65, LIMIT), (1, REPEATED), (0, LIMIT)];
-
-fn router_limit_in(rt: &impl Abort, net: &mut NetBuilder) {
-    for &(asn, want) in &BEHIND_THE_LAST {
-        assert!(rt; is(adds_router(net, asn, TEN | 65), want), "{asn}");
-    }
-}
-
-// How many routers the network has that is built.
-fn routers_of(net: NetBuilder) -> Result<usize, NetError> {
-    Ok(finished(net)?.routers().len())
-}
-
-/// 64 routers are a network where 65 are none.
-#[test]
-fn a_router_past_the_64th_is_refused(rt: HostRuntime) -> Result<(), Fail> {
-    let mut net = line(rt.alloc(), 64)?;
-    router_limit_in(&rt, &mut net);
-    assert!(rt; routers_of(net)? == 64);
-    Ok(())
-}
-
-static LINKS: [(Asn, Asn, Answer); 6] = [
-    (1, 2, REPEATED),
-    (2, 1, REPEATED),
-    (3, 3, REPEATED),
-    (99, 99, REPEATED),
-    (1, 99, UNKNOWN),
-    (99, 1, UNKNOWN),
-];
-
-fn refused_links(rt: &impl Abort, net: &mut NetBuilder) {
-    for &(a, b, want) in &LINKS {
-        assert!(rt; is(adds_link(net, a, b), want), "{a} {b}");
-    }
-}
-
-fn sixteen_links(rt: &impl Abort, net: &mut NetBuilder) {
-    for i in 3..18u32 {
-        assert!(rt; is(adds_link(net, 1, i), Ok(())), "at {i}");
-    }
-}
-
-fn links_of_a_full_router(rt: &impl Abort, net: &mut NetBuilder) {
-    assert!(rt; is(adds_link(net, 1, 18), LIMIT));
-    assert!(rt; is(adds_link(net, 18, 1), LIMIT));
-}
-
-fn link_refusals_in(rt: &impl Abort, net: &mut NetBuilder) {
-    refused_links(rt, net);
-    sixteen_links(rt, net);
-    links_of_a_full_router(rt, net);
-}
-
-#[test]
-fn faulty_links_are_refused(rt: HostRuntime) -> Result<(), Fail> {
-    let mut net = line(rt.alloc(), 18)?;
-    link_refusals_in(&rt, &mut net);
-    Ok(())
-}
-
-static ORIGINS: [(Asn, Answer); 5] = [
-    (9, UNKNOWN),
-    (2, Ok(())),
-    (2, REPEATED),
-    (1, REPEATED),
-    (9, REPEATED),
-];
-
-// Whether a builder answers to an origin of a prefix what is wanted.
-fn origin_is(net: &mut NetBuilder, router: Asn, addr: u32, len: u8, want: Answer) -> bool {
-    adds_origin_at(net, router, addr, len) == want
-}
-
-fn refused_origins(rt: &impl Abort, net: &mut NetBuilder) {
-    for &(asn, want) in &ORIGINS {
-        assert!(rt; origin_is(net, asn, TEN, 8, want), "{asn}");
-    }
-}
-
-fn many_origins(rt: &impl Abort, net: &mut NetBuilder) {
-    for i in 0..255u32 {
-        assert!(rt;
-            origin_is(net, 1, 254u32.wrapping_sub(i) << 8, 24, Ok(())),
-            "at {i}"
-        );
-    }
 }
 
 // Whether these are so many, and the prefixes rise.
@@ -198,172 +233,63 @@ fn are_in_order(origins: &[Origin], count: usize) -> bool {
     origins.len() == count
 }
 
-fn origin_refusals_in(rt: &impl Abort, net: &mut NetBuilder) {
-    refused_origins(rt, net);
-    many_origins(rt, net);
-    assert!(rt; origin_is(net, 1, TEN, 9, LIMIT));
-    assert!(rt; origin_is(net, 2, 0, 24, REPEATED));
-    assert!(rt; are_in_order(net.origins(), 256));
-}
-
-#[test]
-fn faulty_origins_are_refused(rt: HostRuntime) -> Result<(), Fail> {
-    let mut net = line(rt.alloc(), 2)?;
-    origin_refusals_in(&rt, &mut net);
-    Ok(())
-}
-
-static RULES: [(Asn, &[&[Asn]], Answer); 9] = [
-    (2, &[&[2, 3, 2]], NOT_SIMPLE),
-    (2, &[&[3, 1]], NOT_SIMPLE),
-    (9, &[&[9, 9]], NOT_SIMPLE),
-    (2, &[&[2, 1], &[2, 3], &[2, 1]], REPEATED),
-    (9, &[&[9, 1]], UNKNOWN),
-    (2, &[&[2, 9]], UNKNOWN),
-    (9, &[], UNKNOWN),
-    (2, &[], Ok(())),
-    (2, &[], REPEATED),
-];
-
-// Whether a builder answers to a rule of these paths what is wanted.
-fn rule_is(
-    alloc: Global,
-    net: &mut NetBuilder,
-    router: Asn,
-    len: u8,
-    lists: &[&[Asn]],
-    want: Answer,
-) -> bool {
-    push_rule(alloc, net, router, TEN, len, lists) == want
-}
-
-fn rule_refusals_in(rt: &impl Abort, alloc: Global, net: &mut NetBuilder) {
-    for &(router, lists, want) in &RULES {
-        assert!(rt;
-            rule_is(alloc, net, router, 9, lists, want),
-            "{router} {lists:?}"
-        );
+// Whether the builder answers so.
+fn is_so(alloc: Global, net: &mut NetBuilder, step: &Step) -> bool {
+    match step {
+        Step::Takes(plan) => push_plan(alloc, net, plan).is_ok(),
+        Step::Line(count) => push_line(net, *count).is_ok(),
+        Step::Router(asn, id, want) => adds_router(net, *asn, *id) == *want,
+        Step::Link(one, other, want) => adds_link(net, *one, *other) == *want,
+        Step::LinksOfOne(first, last) => push_links_of_one(net, *first, *last).is_ok(),
+        Step::Origin(router, at, want) => adds_origin(net, *router, *at) == *want,
+        Step::ManyOrigins => push_many_origins(net).is_ok(),
+        Step::Rule(router, at, lists, want) => {
+            adds_rule(net, *router, *at, paths_of(alloc, lists)) == *want
+        }
+        Step::RuleOfWays(last, want) => {
+            adds_rule(net, 1, (0, 0), ways_of_two(alloc, *last)) == *want
+        }
+        Step::ManyRules => push_many_rules(alloc, net).is_ok(),
+        Step::RoutersRise(greatest) => rise_to(net.routers(), *greatest),
+        Step::OriginsRise(count) => are_in_order(net.origins(), *count),
     }
 }
 
-#[test]
-fn faulty_rules_are_refused(rt: HostRuntime) -> Result<(), Fail> {
-    let alloc = rt.alloc();
-    let mut net = disagree(alloc)?;
-    rule_refusals_in(&rt, alloc, &mut net);
-    Ok(())
-}
-
-static LENGTHS: [(u8, &[&[Asn]], Answer); 2] = [
-    (
-        1,
-        &[&[1, 2, 3, 4, 5, 6, 7, 8, 9, 10, 11, 12, 13, 14, 15, 16]],
-        Ok(()),
-    ),
-    (
-        2,
-        &[&[1, 2, 3, 4, 5, 6, 7, 8, 9, 10, 11, 12, 13, 14, 15, 16, 17]],
-        Err(NetError::TooLong),
-    ),
-];
-
-fn lengths_of_paths(rt: &impl Abort, alloc: Global, net: &mut NetBuilder) {
-    for &(len, lists, want) in &LENGTHS {
-        assert!(rt; rule_is(alloc, net, 1, len, lists, want), "{len}");
+fn answers(rt: &impl Abort, alloc: Global, net: &mut NetBuilder, name: &str, steps: &[Step]) {
+    for (i, step) in steps.iter().enumerate() {
+        assert!(rt; is_so(alloc, net, step), "{name}: row {i}");
     }
 }
 
-/// The paths of router 1 to each from 2 to below `last`.
-fn ways_of_two(alloc: Global, last: Asn) -> Result<Vec<Path>, AllocError> {
-    let mut list = Vec::new(alloc);
-    for i in 2..last {
-        push_path(alloc, &mut list, &[1, i])?;
-    }
-    Ok(list)
-}
-
-// Whether a builder answers to a rule of these paths what is wanted.
-fn ways_are(alloc: Global, net: &mut NetBuilder, last: Asn, want: Answer) -> bool {
-    match ways_of_two(alloc, last) {
-        Ok(paths) => adds_rule_at(net, 1, 0, 0, paths) == want,
-        Err(_) => false,
-    }
-}
-
-fn counts_of_paths(rt: &impl Abort, alloc: Global, net: &mut NetBuilder) {
-    assert!(rt; ways_are(alloc, net, 35, LIMIT));
-    assert!(rt; ways_are(alloc, net, 34, Ok(())));
-}
-
-fn no_paths_are(alloc: Global, net: &mut NetBuilder, number: u32, want: Answer) -> bool {
-    adds_rule_at(net, 1, number << 8, 24, Vec::new(alloc)) == want
-}
-
-fn counts_of_rules(rt: &impl Abort, alloc: Global, net: &mut NetBuilder) {
-    for i in 2..64u32 {
-        assert!(rt; no_paths_are(alloc, net, i, Ok(())), "at {i}");
-    }
-    assert!(rt; no_paths_are(alloc, net, 64, LIMIT));
-}
-
-fn rule_limits_in(rt: &impl Abort, alloc: Global, net: &mut NetBuilder) {
-    lengths_of_paths(rt, alloc, net);
-    counts_of_paths(rt, alloc, net);
-    counts_of_rules(rt, alloc, net);
-}
-
-/// A router has at most 64 rules, a rule at most 32 paths, a path at most 16 routers.
-#[test]
-fn rules_past_a_limit_are_refused(rt: HostRuntime) -> Result<(), Fail> {
-    let alloc = rt.alloc();
-    let mut net = line(alloc, 40)?;
-    rule_limits_in(&rt, alloc, &mut net);
-    Ok(())
-}
-
-/// The builder that cannot finish for this, which is given back.
-fn refused(net: NetBuilder, want: NetError) -> Option<NetBuilder> {
+// The builder again, where it is refused so; none where a network of so many routers was built.
+fn ends(rt: &impl Abort, net: NetBuilder, name: &str, end: End) -> Option<NetBuilder> {
     match net.finish() {
-        Ok(_) => None,
-        Err((net, error)) => { if error == want { Some(net) } else { None } }
+        Ok(net) => {
+            assert!(rt; end == Ok(net.routers().len()), "{name}: finishes");
+            None
+        }
+        Err((net, error)) => {
+            assert!(rt; end == Err(error), "{name}: is refused as it finishes");
+            Some(net)
+        }
     }
 }
 
-fn push_two_parts(net: &mut NetBuilder) -> bool {
-    adds_router(net, 1, TEN | 1).is_ok()
-        && adds_router(net, 2, TEN | 2).is_ok()
-        && adds_router(net, 3, TEN | 3).is_ok()
-        && adds_link(net, 1, 2).is_ok()
-}
-
-// A builder that refused to finish without routers, and has two parts since.
-fn two_parts(alloc: Global) -> Option<NetBuilder> {
-    let mut net = refused(NetBuilder::new(alloc, SETTINGS).ok()?, NetError::Limit)?;
-    if push_two_parts(&mut net) {
-        Some(net)
-    } else {
-        None
+fn goes(rt: &impl Abort, alloc: Global, case: &Case) -> Option<()> {
+    let mut net = NetBuilder::new(alloc, SETTINGS).ok()?;
+    for &(steps, end) in case.stages {
+        answers(rt, alloc, &mut net, case.name, steps);
+        match ends(rt, net, case.name, end) {
+            Some(again) => net = again,
+            None => return Some(()),
+        }
     }
-}
-
-// One that refused to finish as well where it has two parts, which are joined since.
-fn joined_parts(alloc: Global) -> Option<NetBuilder> {
-    let mut net = refused(two_parts(alloc)?, NetError::NotConnected)?;
-    if adds_link(&mut net, 3, 2).is_ok() {
-        Some(net)
-    } else {
-        None
-    }
-}
-
-fn finishes(net: Option<NetBuilder>) -> bool {
-    match net {
-        Some(net) => net.finish().is_ok(),
-        None => false,
-    }
+    Some(())
 }
 
 #[test]
-fn a_network_in_two_parts_is_given_back(rt: HostRuntime) {
-    assert!(rt; finishes(joined_parts(rt.alloc())));
+fn builders_take_and_refuse(rt: HostRuntime) {
+    for case in &CASES {
+        assert!(rt; goes(&rt, rt.alloc(), case) == Some(()), "{}", case.name);
+    }
 }

@@ -5,85 +5,98 @@ use ranked_policy::{Link, NetItems};
 use std::process::Abort;
 use std::test::Fail;
 
-// Each question ensures nothing, so that its answer is not carried along to the next.
-fn stands_at(net: &Network, asn: Asn, place: Option<usize>) -> bool {
-    net.place(asn) == place
+/// What is asked of a prefix.
+enum Of {
+    /// Its place, by address and then by length.
+    Place(Option<usize>),
+    /// Whether a router originates it.
+    IsOrigin(Asn, bool),
+    IsNamed(bool),
 }
 
-fn prefix_place(net: &Network, prefix: &Prefix) -> Option<usize> {
-    net.prefix_place(prefix)
+/// What a network is asked, and what it is to answer.
+enum Asked {
+    Prefix(At, Of),
+    /// The place of a router, by rising number.
+    Place(Asn, Option<usize>),
+    /// Whether there is such a router.
+    IsKnown(Asn, bool),
+    AreLinked(Asn, Asn, bool),
+    LinksOf(Asn, &'static [Link]),
+    Peers(Asn, &'static [Asn]),
+    /// The settings of every network here.
+    Settings,
+    /// How many links, origins and routers there are.
+    Counts(usize, usize, usize),
 }
 
-fn prefix_stands_at(net: &Network, addr: u32, len: u8, place: Option<usize>) -> bool {
-    match Prefix::new(addr, len) {
-        Some(prefix) => prefix_place(net, &prefix) == place,
-        None => false,
-    }
+/// A network, and what it is asked.
+struct Case {
+    name: &'static str,
+    plan: Plan,
+    asked: &'static [Asked],
 }
 
-fn is_origin(net: &Network, asn: Asn, prefix: &Prefix) -> bool {
-    net.is_origin(asn, prefix)
-}
+const EIGHT: At = (TEN, 8);
 
-static ROUTERS: [(Asn, Option<usize>); 5] = [
-    (1, Some(0)),
-    (3, Some(2)),
-    (4, Some(3)),
-    (0, None),
-    (5, None),
+/// `DISAGREE`, of which router 4 originates 10.0.0.0/8 as well.
+const WITH_EIGHT: Plan = Plan {
+    routers: 4,
+    links: CROSSED,
+    origins: &[(1, SIXTEEN), (1, (0x0b00_0000, 8)), (4, EIGHT)],
+    rules: DISAGREEING,
+};
+
+#[rattlefmt::skip]
+static CASES: [Case; 6] = [
+    Case { name: "routers stand by rising number", plan: WITH_EIGHT, asked: &[
+        Asked::Place(1, Some(0)),
+        Asked::Place(3, Some(2)),
+        Asked::Place(4, Some(3)),
+        Asked::Place(0, None),
+        Asked::Place(5, None),
+    ] },
+    Case { name: "prefixes stand by address and then by length", plan: WITH_EIGHT, asked: &[
+        Asked::Prefix(EIGHT, Of::Place(Some(0))),
+        Asked::Prefix(SIXTEEN, Of::Place(Some(1))),
+        Asked::Prefix((0x0b00_0000, 8), Of::Place(Some(2))),
+        Asked::Prefix((TEN, 9), Of::Place(None)),
+        Asked::Prefix((0x0c00_0000, 8), Of::Place(None)),
+        Asked::Prefix(EIGHT, Of::IsOrigin(4, true)),
+        Asked::Prefix(EIGHT, Of::IsOrigin(1, false)),
+    ] },
+    Case { name: "readers answer what was built", plan: DISAGREE, asked: &[
+        Asked::Settings,
+        Asked::Counts(5, 2, 4),
+        Asked::Peers(2, &[1, 3, 4]),
+    ] },
+    Case { name: "the links of a router are listed", plan: DISAGREE, asked: &[
+        Asked::LinksOf(2, &[Link { one: 2, other: 1 }, Link { one: 2, other: 3 }, Link { one: 2, other: 4 }]),
+        Asked::LinksOf(5, &[]),
+    ] },
+    Case { name: "routers and links are known", plan: DISAGREE, asked: &[
+        Asked::IsKnown(1, true),
+        Asked::IsKnown(4, true),
+        Asked::IsKnown(5, false),
+        Asked::AreLinked(3, 1, true),
+        Asked::AreLinked(3, 4, true),
+        Asked::AreLinked(3, 5, false),
+    ] },
+    Case { name: "origins and prefixes are known", plan: DISAGREE, asked: &[
+        Asked::Prefix(SIXTEEN, Of::IsOrigin(1, true)),
+        Asked::Prefix(SIXTEEN, Of::IsOrigin(4, false)),
+        Asked::Prefix(SIXTEEN, Of::IsOrigin(5, false)),
+        Asked::Prefix(SIXTEEN, Of::IsNamed(true)),
+        Asked::Prefix(EIGHT, Of::IsNamed(false)),
+    ] },
 ];
 
-fn router_places(rt: &impl Abort, net: &Network) {
-    for &(asn, place) in &ROUTERS {
-        assert!(rt; stands_at(net, asn, place), "{asn}");
+fn is_so_of(net: &Network, prefix: &Prefix, of: &Of) -> bool {
+    match of {
+        Of::Place(place) => net.prefix_place(prefix) == *place,
+        Of::IsOrigin(asn, wanted) => net.is_origin(*asn, prefix) == *wanted,
+        Of::IsNamed(wanted) => net.names(prefix) == *wanted,
     }
-}
-
-static PREFIXES: [(u32, u8, Option<usize>); 5] = [
-    (TEN, 8, Some(0)),
-    (0x0a01_0000, 16, Some(1)),
-    (0x0b00_0000, 8, Some(2)),
-    (TEN, 9, None),
-    (0x0c00_0000, 8, None),
-];
-
-fn prefix_places(rt: &impl Abort, net: &Network) {
-    for &(addr, len, place) in &PREFIXES {
-        assert!(rt; prefix_stands_at(net, addr, len, place), "{addr:x}/{len}");
-    }
-}
-
-fn places_in(rt: &impl Abort, net: &Network, eight: &Prefix) {
-    router_places(rt, net);
-    prefix_places(rt, net);
-    assert!(rt; is_origin(net, 4, eight));
-    assert!(rt; !is_origin(net, 1, eight));
-}
-
-// A network of which router 4 originates 10.0.0.0/8 as well.
-fn with_eight(alloc: Global) -> Result<NetBuilder, NetError> {
-    let mut net = disagree(alloc)?;
-    adds_origin_at(&mut net, 4, TEN, 8)?;
-    Ok(net)
-}
-
-/// Routers stand by rising number, prefixes by address and then by length.
-#[test]
-fn routers_and_prefixes_stand_in_order(rt: HostRuntime) -> Result<(), Fail> {
-    let eight = prefix(TEN, 8)?;
-    let net = finished(with_eight(rt.alloc())?)?;
-    places_in(&rt, &net, &eight);
-    Ok(())
-}
-
-fn has_settings(net: &Network, settings: Settings) -> bool {
-    net.settings() == settings
-}
-
-fn has_counts(net: &Network, links: usize, origins: usize, routers: usize) -> bool {
-    net.links().len() == links
-        && net.origins().len() == origins
-        && net.built().routers().len() == routers
 }
 
 fn has_peers(alloc: Global, net: &Network, router: Asn, peers: &[Asn]) -> bool {
@@ -93,91 +106,43 @@ fn has_peers(alloc: Global, net: &Network, router: Asn, peers: &[Asn]) -> bool {
     }
 }
 
-fn readers_in(rt: &impl Abort, alloc: Global, net: &Network) {
-    assert!(rt; has_settings(net, SETTINGS));
-    assert!(rt; has_counts(net, 5, 2, 4));
-    assert!(rt; has_peers(alloc, net, 2, &[1, 3, 4]));
-}
-
-#[test]
-fn readers_answer_what_was_built(rt: HostRuntime) -> Result<(), Fail> {
-    let alloc = rt.alloc();
-    let net = finished(disagree(alloc)?)?;
-    readers_in(&rt, alloc, &net);
-    Ok(())
-}
-
-fn has_links(net: &Network, router: Asn, links: &[Link]) -> bool {
-    net.links_of(router) == links
-}
-
-static LINKS: [Link; 3] = [
-    Link { one: 2, other: 1 },
-    Link { one: 2, other: 3 },
-    Link { one: 2, other: 4 },
-];
-
-fn links_in(rt: &impl Abort, net: &Network) {
-    assert!(rt; has_links(net, 2, &LINKS));
-    assert!(rt; has_links(net, 5, &[]));
-}
-
-#[test]
-fn the_links_of_a_router_are_listed(rt: HostRuntime) -> Result<(), Fail> {
-    let net = finished(disagree(rt.alloc())?)?;
-    links_in(&rt, &net);
-    Ok(())
-}
-
-fn is_known(net: &Network, asn: Asn) -> bool {
-    net.has_router(asn)
-}
-
-fn is_found(net: &Network, asn: Asn) -> bool {
-    net.router(asn).is_some()
-}
-
-fn is_linked(net: &Network, one: Asn, other: Asn) -> bool {
-    net.linked(one, other)
-}
-
-fn is_named(net: &Network, prefix: &Prefix) -> bool {
-    net.names(prefix)
-}
-
-static QUESTIONS: [(Asn, bool, bool, bool); 3] = [
-    (1, true, true, true),
-    (4, true, true, false),
-    (5, false, false, false),
-];
-
-fn is_as_known(net: &Network, asn: Asn, known: bool, linked: bool) -> bool {
-    is_known(net, asn) == known && is_found(net, asn) == known && is_linked(net, 3, asn) == linked
-}
-
-fn is_origin_as(net: &Network, asn: Asn, prefix: &Prefix, origin: bool) -> bool {
-    is_origin(net, asn, prefix) == origin
-}
-
-fn routers_are_known(rt: &impl Abort, net: &Network, prefix: &Prefix) {
-    for &(asn, known, linked, origin) in &QUESTIONS {
-        assert!(rt; is_as_known(net, asn, known, linked), "{asn}");
-        assert!(rt; is_origin_as(net, asn, prefix, origin), "{asn}");
+// Whether the network answers so.
+fn is_so(alloc: Global, net: &Network, asked: &Asked) -> bool {
+    match asked {
+        Asked::Prefix((addr, len), of) => {
+            match Prefix::new(*addr, *len) {
+                Some(prefix) => is_so_of(net, &prefix, of),
+                None => false,
+            }
+        }
+        Asked::Place(asn, place) => net.place(*asn) == *place,
+        Asked::IsKnown(asn, wanted) => {
+            net.has_router(*asn) == *wanted && net.router(*asn).is_some() == *wanted
+        }
+        Asked::AreLinked(one, other, wanted) => net.linked(*one, *other) == *wanted,
+        Asked::LinksOf(router, links) => net.links_of(*router) == *links,
+        Asked::Peers(router, peers) => has_peers(alloc, net, *router, peers),
+        Asked::Settings => net.settings() == SETTINGS,
+        Asked::Counts(links, origins, routers) => {
+            net.links().len() == *links
+                && net.origins().len() == *origins
+                && net.built().routers().len() == *routers
+        }
     }
 }
 
-fn questions_in(rt: &impl Abort, net: &Network, sixteen: &Prefix, eight: &Prefix) {
-    routers_are_known(rt, net, sixteen);
-    assert!(rt; is_named(net, sixteen));
-    assert!(rt; !is_named(net, eight));
+fn answers(rt: &impl Abort, alloc: Global, net: &Network, case: &Case) {
+    for (i, asked) in case.asked.iter().enumerate() {
+        assert!(rt; is_so(alloc, net, asked), "{}: row {i}", case.name);
+    }
 }
 
 #[test]
-fn questions_of_links_and_origins_are_answered(rt: HostRuntime) -> Result<(), Fail> {
-    let sixteen = prefix(0x0a01_0000, 16)?;
-    let eight = prefix(TEN, 8)?;
-    let net = finished(disagree(rt.alloc())?)?;
-    questions_in(&rt, &net, &sixteen, &eight);
+fn networks_answer_what_was_built(rt: HostRuntime) -> Result<(), Fail> {
+    for case in &CASES {
+        let net = network(rt.alloc(), &case.plan)?;
+        answers(&rt, rt.alloc(), &net, case);
+    }
     Ok(())
 }
 

@@ -4,30 +4,21 @@ use ranked_policy::Path;
 use std::process::Abort;
 use std::test::Fail;
 
-fn path_lists_in(rt: &impl Abort, long: &Path) {
+fn are_their_numbers(rt: &impl Abort, long: &Path, on: &Path, same: &Path, other: &Path) {
     assert!(rt; long.len() == 9);
     assert!(rt; !long.is_empty());
-}
-
-#[test]
-fn a_path_is_its_numbers(rt: HostRuntime) -> Result<(), Fail> {
-    assert!(rt; Path::new(rt.alloc()).is_empty());
-    let long = Path::from_slice(rt.alloc(), &[1, 2, 3, 4, 5, 6, 7, 8, 9])?;
-    path_lists_in(&rt, &long);
-    Ok(())
-}
-
-fn path_equality_in(rt: &impl Abort, on: &Path, same: &Path, other: &Path) {
     assert!(rt; on.as_slice() == [2, 3, 1].as_slice());
     assert!(rt; on == same);
     assert!(rt; on != other);
 }
 
 #[test]
-fn equal_paths_have_the_same_numbers(rt: HostRuntime) -> Result<(), Fail> {
+fn a_path_is_its_numbers(rt: HostRuntime) -> Result<(), Fail> {
+    assert!(rt; Path::new(rt.alloc()).is_empty());
+    let long = Path::from_slice(rt.alloc(), &[1, 2, 3, 4, 5, 6, 7, 8, 9])?;
     let on = Path::from_router(rt.alloc(), 2, &[3, 1])?;
     let same = Path::from_slice(rt.alloc(), &[2, 3, 1])?;
     let other = Path::from_slice(rt.alloc(), &[2, 1])?;
-    path_equality_in(&rt, &on, &same, &other);
+    are_their_numbers(&rt, &long, &on, &same, &other);
     Ok(())
 }

@@ -7,34 +7,47 @@ const STEPS: u32 = 1500;
 
 const ROUTER: Asn = 4;
 
-// The prefixes of the tests.
-#[derive(Clone, Copy)]
-struct Prefixes {
-    // 10.0.0.0/8; its origin is 5.
-    eight: Prefix,
-    short: Prefix,
-    long: Prefix,
-    far: Prefix,
-    stray: Prefix,
+/// 10.0.0.0/8; its origin is 5.
+const EIGHT: At = (0x0a00_0000, 8);
+
+/// A ring with a chord, prefixes of three origins, and a rule that ranks two paths for one of them.
+static MESH: Plan = Plan {
+    routers: 5,
+    links: &[(1, 2), (2, 4), (4, 3), (3, 1), (4, 5), (5, 1)],
+    origins: &[(4, FAR), (1, LONG), (1, SHORT), (5, EIGHT)],
+    rules: &[(ROUTER, LONG, &[&[4, 3, 1], &[4, 2, 1]])],
+};
+
+/// What is asked of; nobody originates the last.
+static PREFIXES: [At; 5] = [EIGHT, SHORT, LONG, FAR, STRAY];
+
+/// What is told.
+static TOLD: [At; 3] = [SHORT, LONG, FAR];
+
+struct Peer {
+    asn: Asn,
+    /// Its AS_PATHs: mostly one AS_SEQUENCE, some of them long or through the router itself.
+    along: &'static [Along<'static>],
 }
 
-fn named_prefixes() -> Option<Prefixes> {
-    let (addr, len) = SHORT;
-    let short = Prefix::new(addr, len)?;
-    let (addr, len) = LONG;
-    let long = Prefix::new(addr, len)?;
-    let (addr, len) = FAR;
-    let far = Prefix::new(addr, len)?;
-    let (addr, len) = STRAY;
-    let stray = Prefix::new(addr, len)?;
-    Some(Prefixes {
-        eight: Prefix::new(0x0a00_0000, 8)?,
-        short,
-        long,
-        far,
-        stray,
-    })
-}
+#[rattlefmt::skip]
+static PEERS: [Peer; 3] = [
+    Peer { asn: 2, along: &[
+        Along::Nothing, Along::Set(&[2, 1]), Along::Two(&[2], &[1]), Along::Path(&[2, 4, 1]),
+        Along::Path(&[2, 9, 8, 7, 6, 10, 11, 12, 1]), Along::Path(&[2, 9, 1]), Along::Path(&[5]),
+        Along::Path(&[2, 1]), Along::Path(&[2, 1]), Along::Path(&[2, 1]),
+    ] },
+    Peer { asn: 3, along: &[
+        Along::Nothing, Along::Set(&[3, 1]), Along::Two(&[3], &[1]), Along::Path(&[3, 4, 1]),
+        Along::Path(&[3, 9, 8, 7, 6, 10, 11, 12, 1]), Along::Path(&[3, 9, 1]), Along::Path(&[5]),
+        Along::Path(&[3, 1]), Along::Path(&[3, 1]), Along::Path(&[3, 1]),
+    ] },
+    Peer { asn: 5, along: &[
+        Along::Nothing, Along::Set(&[5, 1]), Along::Two(&[5], &[1]), Along::Path(&[5, 4, 1]),
+        Along::Path(&[5, 9, 8, 7, 6, 10, 11, 12, 1]), Along::Path(&[5, 9, 1]), Along::Path(&[5]),
+        Along::Path(&[5, 1]), Along::Path(&[5, 1]), Along::Path(&[5, 1]),
+    ] },
+];
 
 // Numbers that look random, from a seed (Knuth's MMIX generator).
 #[derive(Drop)]
@@ -54,314 +67,152 @@ impl Dice {
             .checked_rem(sides)
             .unwrap_or(0)
     }
-
-    fn peer(&mut self) -> Asn {
-        match self.roll(3) {
-            0 => 2,
-            1 => 3,
-            _ => 5,
-        }
-    }
-
-    fn prefix(&mut self, named: &Prefixes) -> Prefix {
-        match self.roll(3) {
-            0 => named.short,
-            1 => named.long,
-            _ => named.far,
-        }
-    }
 }
 
-static CHORDED: [(Asn, Asn); 6] = [(1, 2), (2, 4), (4, 3), (3, 1), (4, 5), (5, 1)];
-
-// A ring with a chord, prefixes of three origins, and a rule that ranks two paths for one of them.
-fn push_mesh(alloc: Global, net: &mut NetBuilder) -> Result<(), NetError> {
-    let (addr, len) = LONG;
-    push_links(net, 5, &CHORDED)?;
-    push_origins(net)?;
-    adds_origin_at(net, 5, 0x0a00_0000, 8)?;
-    push_rule(alloc, net, ROUTER, addr, len, &[&[4, 3, 1], &[4, 2, 1]])
-}
-
-fn meshed(alloc: Global) -> Result<Network, NetError> {
-    let mut net = NetBuilder::new(alloc, SETTINGS)?;
-    push_mesh(alloc, &mut net)?;
-    finished(net)
-}
-
-// An AS_PATH of a peer, by a number below 10: mostly one AS_SEQUENCE, some of them long or through
-// the router itself.
-fn path_by(alloc: Global, number: u32, peer: Asn) -> AsPath {
-    let kind = SegmentKind::AsSequence;
-    match number {
-        0 => Ok(None),
-        1 => one_segment(alloc, SegmentKind::AsSet, &[peer, 1]),
-        2 => two_segments(alloc, &[peer], &[1]),
-        3 => one_segment(alloc, kind, &[peer, 4, 1]),
-        4 => one_segment(alloc, kind, &[peer, 9, 8, 7, 6, 10, 11, 12, 1]),
-        5 => one_segment(alloc, kind, &[peer, 9, 1]),
-        6 => one_segment(alloc, kind, &[5]),
-        _ => one_segment(alloc, kind, &[peer, 1]),
-    }
-}
-
-// Some of these prefixes.
-fn some_of(alloc: Global, dice: &mut Dice, prefixes: &[Prefix]) -> Result<Vec<Prefix>, AllocError> {
+// Some of the prefixes.
+fn some_of(alloc: Global, dice: &mut Dice) -> Result<Vec<At>, AllocError> {
     let mut some = Vec::new(alloc);
-    for prefix in prefixes {
+    for at in &PREFIXES {
         if dice.roll(3) == 0 {
-            some.push(*prefix)?;
+            some.push(*at)?;
         }
     }
     Ok(some)
 }
 
-// An UPDATE that withdraws these prefixes.
-fn withdrawing(
+// Does it on both, and whether both did. It ensures nothing, so that one call is not carried along to the next.
+fn both(alloc: Global, rib: &mut Rib, lists: &mut Lists, row: &Row) -> bool {
+    is_so(alloc, rib, row) && lists.does(row).is_ok()
+}
+
+fn both_hear(
     alloc: Global,
-    dice: &mut Dice,
+    rib: &mut Rib,
+    lists: &mut Lists,
     peer: Asn,
-    withdrawn: &[Prefix],
-    prefixes: &[Prefix],
-) -> Result<Update, AllocError> {
-    let number = dice.roll(10);
-    let nlri = some_of(alloc, dice, prefixes)?;
-    update(
-        alloc,
-        withdrawn,
-        path_by(alloc, number, peer),
-        nlri.as_slice(),
-    )
+    along: &Along,
+    nlri: &[At],
+    withdrawn: &[At],
+) -> bool {
+    says(rib, peer, false, updates(alloc, along, nlri, withdrawn))
+        && lists.hear_all(peer, along, nlri, withdrawn).is_ok()
 }
 
-fn random_update(
-    alloc: Global,
-    dice: &mut Dice,
-    peer: Asn,
-    prefixes: &[Prefix],
-) -> Result<Update, AllocError> {
-    let withdrawn = some_of(alloc, dice, prefixes)?;
-    withdrawing(alloc, dice, peer, withdrawn.as_slice(), prefixes)
-}
-
-// Calls on both, and whether both were made; each ensures nothing, so that one is not carried along to
-// the next.
-fn both_hear(rib: &mut Rib, lists: &mut Lists, peer: Asn, update: &Update) -> bool {
-    hear(rib, peer, update) && lists.hear(peer, update).is_ok()
-}
-
+// A peer withdraws some prefixes and announces some on both.
 fn both_hear_some(
     alloc: Global,
     dice: &mut Dice,
     rib: &mut Rib,
     lists: &mut Lists,
-    peer: Asn,
-    prefixes: &[Prefix],
-) -> bool {
-    match random_update(alloc, dice, peer, prefixes) {
-        Ok(update) => both_hear(rib, lists, peer, &update),
-        Err(_) => false,
+    peer: &Peer,
+) -> Result<bool, AllocError> {
+    let withdrawn = some_of(alloc, dice)?;
+    let along = peer.along.get(dice.roll(10) as usize).ok_or(AllocError)?;
+    let nlri = some_of(alloc, dice)?;
+    Ok(both_hear(alloc, rib, lists, peer.asn, along, &nlri, &withdrawn))
+}
+
+// One random call on both; none where there is no such peer or prefix, or no memory.
+fn step(alloc: Global, dice: &mut Dice, rib: &mut Rib, lists: &mut Lists) -> Option<bool> {
+    let peer = PEERS.get(dice.roll(3) as usize)?;
+    let at = *TOLD.get(dice.roll(3) as usize)?;
+    let row = match dice.roll(40) {
+        0..=13 => return both_hear_some(alloc, dice, rib, lists, peer).ok(),
+        14..=21 => Row::At(at, Of::Tells(peer.asn)),
+        22..=24 => Row::ComesUp(peer.asn),
+        25 | 26 => Row::Forgets(peer.asn),
+        27 | 28 => Row::At(FAR, Of::Originates),
+        29 => Row::At(FAR, Of::Withdraws),
+        30 => Row::Clears,
+        _ => Row::Decides(lists.dirty().ok()?),
+    };
+    Some(both(alloc, rib, lists, &row))
+}
+
+// Both say the same of a peer and a prefix.
+fn same_words(rt: &impl Abort, alloc: Global, rib: &mut Rib, lists: &Lists, peer: Asn, at: At) {
+    if at == STRAY {
+        assert!(rt; is_so(alloc, rib, &Row::At(at, Of::Unheard(peer))));
+        return;
     }
-}
-
-fn both_tell(rib: &mut Rib, lists: &mut Lists, peer: Asn, prefix: &Prefix) -> bool {
-    tells(rib, peer, prefix) && lists.tell(peer, prefix).is_ok()
-}
-
-fn both_come_up(rib: &mut Rib, lists: &mut Lists, peer: Asn) -> bool {
-    comes_up(rib, peer) && lists.come_up(peer).is_ok()
-}
-
-fn both_forget(rib: &mut Rib, lists: &mut Lists, peer: Asn) -> bool {
-    lists.forget(peer);
-    forgets(rib, peer)
-}
-
-fn both_originate(rib: &mut Rib, lists: &mut Lists, prefix: &Prefix) -> bool {
-    originates(rib, prefix) && lists.originate(prefix).is_ok()
-}
-
-fn both_withdraw(rib: &mut Rib, lists: &mut Lists, prefix: &Prefix) -> bool {
-    lists.withdraw(prefix);
-    withdraws(rib, prefix)
-}
-
-fn both_clear(rib: &mut Rib, lists: &mut Lists) -> bool {
-    lists.clear();
-    clears(rib)
-}
-
-fn both_decide(alloc: Global, rib: &mut Rib, lists: &mut Lists) -> bool {
-    match decided(alloc, rib) {
-        Ok(Some(prefix)) => lists.keep_best(&prefix).is_ok(),
-        Ok(None) => true,
-        Err(_) => false,
-    }
-}
-
-// One random call on both.
-fn step(
-    alloc: Global,
-    dice: &mut Dice,
-    rib: &mut Rib,
-    lists: &mut Lists,
-    named: &Prefixes,
-    prefixes: &[Prefix],
-) -> bool {
-    let peer = dice.peer();
-    let prefix = dice.prefix(named);
-    match dice.roll(40) {
-        0..=13 => both_hear_some(alloc, dice, rib, lists, peer, prefixes),
-        14..=21 => both_tell(rib, lists, peer, &prefix),
-        22..=24 => both_come_up(rib, lists, peer),
-        25 | 26 => both_forget(rib, lists, peer),
-        27 | 28 => both_originate(rib, lists, &named.far),
-        29 => both_withdraw(rib, lists, &named.far),
-        30 => both_clear(rib, lists),
-        _ => both_decide(alloc, rib, lists),
-    }
-}
-
-// Both say the same of a peer.
-fn same_waiting(rib: &Rib, lists: &Lists, peer: Asn) -> bool {
-    waiting(rib, peer) == Some(lists.waiting(peer))
-}
-
-// Both say the same of a peer and a prefix that is named.
-fn same_heard(rib: &Rib, lists: &Lists, peer: Asn, prefix: &Prefix) -> bool {
-    heard(rib, peer, prefix) == lists.heard(peer, prefix)
-}
-
-fn same_other(rib: &Rib, lists: &Lists, peer: Asn, prefix: &Prefix) -> bool {
-    is_heard_as_other(rib, peer, prefix) == lists.heard_other(peer, prefix)
-}
-
-fn same_sent(rib: &Rib, lists: &Lists, peer: Asn, prefix: &Prefix) -> bool {
-    sent(rib, peer, prefix) == lists.sent(peer, prefix)
-}
-
-fn is_named(rib: &Rib, prefix: &Prefix) -> bool {
-    rib.network().names(prefix)
-}
-
-fn same_words(rt: &impl Abort, rib: &Rib, lists: &Lists, peer: Asn, prefix: &Prefix) {
-    if is_named(rib, prefix) {
-        assert!(rt; same_heard(rib, lists, peer, prefix));
-        assert!(rt; same_other(rib, lists, peer, prefix));
-        assert!(rt; same_sent(rib, lists, peer, prefix));
-    } else {
-        assert!(rt; !is_heard(rib, peer, prefix));
-    }
-}
-
-fn same_of_peer(rt: &impl Abort, rib: &Rib, lists: &Lists, peer: Asn, prefixes: &[Prefix]) {
-    assert!(rt; same_waiting(rib, lists, peer));
-    for prefix in prefixes {
-        same_words(rt, rib, lists, peer, prefix);
-    }
+    let heard = Of::Heard(peer, lists.heard(peer, at));
+    let sent = Of::Sent(peer, lists.sent(peer, at));
+    let other = is_so(alloc, rib, &Row::At(at, Of::HeardOther(peer)));
+    assert!(rt; is_so(alloc, rib, &Row::At(at, heard)));
+    assert!(rt; other == lists.has_heard_other(peer, at));
+    assert!(rt; is_so(alloc, rib, &Row::At(at, sent)));
 }
 
 // Both say the same of a prefix.
-fn same_kept(rib: &Rib, lists: &Lists, prefix: &Prefix) -> bool {
-    keeps_path(rib, prefix, lists.path(prefix))
+fn same_of_prefix(rt: &impl Abort, alloc: Global, rib: &mut Rib, lists: &Lists, at: At) {
+    let originated = Of::Originated(lists.is_originated(at));
+    assert!(rt; is_so(alloc, rib, &Row::At(at, Of::Kept(lists.path(at)))));
+    assert!(rt; is_so(alloc, rib, &Row::At(at, originated)));
+    assert!(rt; at == STRAY || same_best(alloc, rib, lists, at));
+    for peer in &PEERS {
+        same_words(rt, alloc, rib, lists, peer.asn, at);
+    }
 }
 
-fn same_originated(rib: &Rib, lists: &Lists, prefix: &Prefix) -> bool {
-    is_originated(rib, prefix) == lists.is_originated(prefix)
-}
-
-fn same_best(alloc: Global, rib: &Rib, lists: &Lists, prefix: &Prefix) -> bool {
-    match lists.best(prefix) {
-        Ok(path) => best_is(alloc, rib, prefix, path.as_slice()),
+fn same_best(alloc: Global, rib: &mut Rib, lists: &Lists, at: At) -> bool {
+    match lists.best(at) {
+        Ok(path) => is_so(alloc, rib, &Row::At(at, Of::Best(path.as_slice()))),
         Err(_) => false,
     }
 }
 
-fn same_of_prefix(rt: &impl Abort, alloc: Global, rib: &Rib, lists: &Lists, prefix: &Prefix) {
-    assert!(rt; same_kept(rib, lists, prefix));
-    assert!(rt; same_originated(rib, lists, prefix));
-    if is_named(rib, prefix) {
-        assert!(rt; same_best(alloc, rib, lists, prefix));
+// Whether some peer waits, each for the same.
+fn same_waiting(rt: &impl Abort, alloc: Global, rib: &mut Rib, lists: &Lists) -> bool {
+    let mut awaited = false;
+    for peer in &PEERS {
+        let waits = lists.waiting(peer.asn);
+        assert!(rt; is_so(alloc, rib, &Row::Waits(peer.asn, waits)));
+        awaited = awaited || waits.is_some();
     }
+    awaited
 }
 
 // Both say the same of what is to be done.
-fn same_awaited(rib: &Rib, awaited: bool) -> bool {
-    is_awaited(rib) == awaited
-}
-
-fn same_pending(rib: &mut Rib, pending: bool) -> bool {
-    is_pending(rib) == pending
-}
-
-fn same_dirty(rib: &mut Rib, lists: &Lists, awaited: bool) -> bool {
-    match lists.dirty() {
-        Ok(last) => same_pending(rib, awaited || last.is_some()) && dirty(rib) == last,
-        Err(_) => false,
-    }
-}
-
-static PEERS: [Asn; 3] = [2, 3, 5];
-
-fn same_of_peers(rt: &impl Abort, rib: &Rib, lists: &Lists, prefixes: &[Prefix]) {
-    for peer in &PEERS {
-        same_of_peer(rt, rib, lists, *peer, prefixes);
-    }
-}
-
-fn same_of_prefixes(rt: &impl Abort, alloc: Global, rib: &Rib, lists: &Lists, prefixes: &[Prefix]) {
-    for prefix in prefixes {
-        same_of_prefix(rt, alloc, rib, lists, prefix);
-    }
-}
-
-// Both say the same.
-fn same(rt: &impl Abort, alloc: Global, rib: &mut Rib, lists: &Lists, prefixes: &[Prefix]) {
-    same_of_peers(rt, rib, lists, prefixes);
-    same_of_prefixes(rt, alloc, rib, lists, prefixes);
-    let awaited = lists.is_awaited();
-    assert!(rt; same_awaited(rib, awaited));
-    assert!(rt; same_dirty(rib, lists, awaited));
+fn same_to_do(rt: &impl Abort, alloc: Global, rib: &mut Rib, lists: &Lists) {
+    let awaited = same_waiting(rt, alloc, rib, lists);
+    let Ok(dirty) = lists.dirty() else {
+        panic!(rt; "no memory");
+    };
+    assert!(rt; is_so(alloc, rib, &Row::Awaited(awaited)));
+    assert!(rt; is_so(alloc, rib, &Row::Pending(awaited || dirty.is_some())));
+    assert!(rt; is_so(alloc, rib, &Row::Dirty(dirty)));
 }
 
 // How often a path was kept for one of the prefixes, of so many random calls.
-fn play(
-    rt: &impl Abort,
-    alloc: Global,
-    rib: &mut Rib,
-    lists: &mut Lists,
-    named: &Prefixes,
-    prefixes: &[Prefix],
-) -> u32 {
+fn play(rt: &impl Abort, alloc: Global, rib: &mut Rib, lists: &mut Lists) -> u32 {
     let mut dice = Dice { state: 7 };
     let mut decided = 0u32;
-    for _ in 0..STEPS {
-        assert!(rt; step(alloc, &mut dice, rib, lists, named, prefixes));
-        same(rt, alloc, rib, lists, prefixes);
-        if !keeps_path(rib, &named.long, &[]) {
+    for n in 0..STEPS {
+        assert!(rt;
+            step(alloc, &mut dice, rib, lists) == Some(true),
+            "step {n}"
+        );
+        for at in &PREFIXES {
+            same_of_prefix(rt, alloc, rib, lists, *at);
+        }
+        same_to_do(rt, alloc, rib, lists);
+        if !is_so(alloc, rib, &Row::At(LONG, Of::Kept(&[]))) {
             decided = decided.saturating_add(1);
         }
     }
     decided
 }
 
-fn play_on(rt: &impl Abort, alloc: Global, net: &Network, rib: &mut Rib, named: &Prefixes) -> u32 {
-    let prefixes = [named.eight, named.short, named.long, named.far, named.stray];
-    let mut lists = Lists::new(alloc, net, ROUTER);
-    play(rt, alloc, rib, &mut lists, named, &prefixes)
-}
-
 // None where there are no tables.
-fn play_in(rt: &impl Abort, alloc: Global, net: &Network, named: &Prefixes) -> Option<u32> {
+fn play_in(rt: &impl Abort, alloc: Global, net: &Network) -> Option<u32> {
     let mut rib = tables(alloc, net, ROUTER)?;
-    Some(play_on(rt, alloc, net, &mut rib, named))
+    let mut lists = Lists::new(alloc, net, ROUTER);
+    Some(play(rt, alloc, &mut rib, &mut lists))
 }
 
 #[test]
 fn random_calls_answer_as_plain_lists_do(rt: HostRuntime) -> Result<(), Fail> {
-    let named = named_prefixes().ok_or("no prefix is that long")?;
-    let net = meshed(rt.alloc())?;
-    let decided = play_in(&rt, rt.alloc(), &net, &named);
-    assert!(rt; decided > Some(100));
+    let net = network(rt.alloc(), &MESH)?;
+    assert!(rt; play_in(&rt, rt.alloc(), &net) > Some(100));
     Ok(())
 }

@@ -1,22 +1,21 @@
 //! The tables as plain lists, which each call goes over from one end to the other.
 
-use bgp_codec::{Attrs, SegmentKind, Update};
+use super::{Along, At, Of, Row};
 use prefix_lanes::Prefix;
 use ranked_policy::{Asn, Chosen, Network, Path, Policy};
-use rib_tables::Word;
 use std::alloc::{AllocError, Global};
 
-// What a peer says of a prefix, or is told of it.
+// What a peer says of a prefix, or is told of it: a path, where it gives one.
 #[derive(Drop)]
 struct Said {
     peer: Asn,
-    prefix: Prefix,
-    word: Word,
+    at: At,
+    path: Option<Path>,
 }
 
 #[derive(Drop)]
 struct Kept {
-    prefix: Prefix,
+    at: At,
     path: Path,
 }
 
@@ -29,53 +28,30 @@ pub(super) struct Lists<'a> {
     heard: Vec<Said>,
     sent: Vec<Said>,
     established: Vec<Asn>,
-    originated: Vec<Prefix>,
+    originated: Vec<At>,
     kept: Vec<Kept>,
 }
 
-// The numbers of a path that is one AS_SEQUENCE.
-fn only_sequence(attrs: &Attrs) -> Option<&[Asn]> {
-    let Some(segments) = &attrs.path else {
-        return None;
-    };
-    match segments.as_slice() {
-        [only] if only.kind == SegmentKind::AsSequence => Some(only.numbers.as_slice()),
-        _ => None,
-    }
-}
-
-// What these attributes say of the prefixes that are announced with them.
-fn announced(alloc: Global, attrs: &Attrs) -> Result<Word, AllocError> {
-    match only_sequence(attrs) {
-        Some(numbers) => Ok(Word::Sequence(Path::from_slice(alloc, numbers)?)),
-        None => Ok(Word::Other),
-    }
-}
-
-fn last_of<'s>(said: &'s [Said], peer: Asn, prefix: &Prefix) -> &'s [Asn] {
+fn last_of<'s>(said: &'s [Said], peer: Asn, at: At) -> Option<&'s Said> {
     for one in said.iter().rev() {
-        if one.peer == peer && one.prefix == *prefix {
-            return one.word.path();
+        if one.peer == peer && one.at == at {
+            return Some(one);
         }
     }
-    &[]
+    None
 }
 
-fn is_other(said: &[Said], peer: Asn, prefix: &Prefix) -> bool {
-    for one in said.iter().rev() {
-        if one.peer == peer && one.prefix == *prefix {
-            return matches!(&one.word, Word::Other);
-        }
+// The path that was said last: the empty path where none was.
+fn numbers_of(said: Option<&Said>) -> &[Asn] {
+    match said {
+        Some(
+            Said {
+                path: Some(path),
+                ..
+            },
+        ) => path.as_slice(),
+        _ => &[],
     }
-    false
-}
-
-fn permits(policy: &Chosen, path: &Path) -> bool {
-    policy.permits(path)
-}
-
-fn prefers(policy: &Chosen, one: &Path, other: &Path) -> bool {
-    policy.prefers(one, other)
 }
 
 impl<'a> Lists<'a> {
@@ -92,134 +68,128 @@ impl<'a> Lists<'a> {
         }
     }
 
-    fn hear_word(&mut self, peer: Asn, prefix: &Prefix, word: Word) -> Result<(), AllocError> {
-        self.heard.push(Said {
-            peer,
-            prefix: *prefix,
-            word,
-        })?;
+    fn hear(&mut self, peer: Asn, at: At, along: &Along) -> Result<(), AllocError> {
+        let path = match along {
+            Along::Path(numbers) => Some(Path::from_slice(self.alloc, numbers)?),
+            Along::Nothing | Along::Set(_) | Along::Two(..) => None,
+        };
+        self.heard.push(Said { peer, at, path })?;
         Ok(())
     }
 
-    pub(super) fn hear(&mut self, peer: Asn, update: &Update) -> Result<(), AllocError> {
-        for prefix in update.withdrawn.as_slice() {
-            let word = Word::Sequence(Path::new(self.alloc));
-            self.hear_word(peer, prefix, word)?;
+    // A peer announces prefixes along a path, and withdraws others: the empty path is said of these.
+    pub(super) fn hear_all(
+        &mut self,
+        peer: Asn,
+        along: &Along,
+        nlri: &[At],
+        withdrawn: &[At],
+    ) -> Result<(), AllocError> {
+        for &at in withdrawn {
+            self.hear(peer, at, &Along::Path(&[]))?;
         }
-        for prefix in update.nlri.as_slice() {
-            let word = announced(self.alloc, &update.attrs)?;
-            self.hear_word(peer, prefix, word)?;
-        }
-        Ok(())
-    }
-
-    pub(super) fn heard(&self, peer: Asn, prefix: &Prefix) -> &[Asn] {
-        last_of(self.heard.as_slice(), peer, prefix)
-    }
-
-    pub(super) fn heard_other(&self, peer: Asn, prefix: &Prefix) -> bool {
-        is_other(self.heard.as_slice(), peer, prefix)
-    }
-
-    pub(super) fn sent(&self, peer: Asn, prefix: &Prefix) -> &[Asn] {
-        last_of(self.sent.as_slice(), peer, prefix)
-    }
-
-    pub(super) fn tell(&mut self, peer: Asn, prefix: &Prefix) -> Result<(), AllocError> {
-        let path = Path::from_slice(self.alloc, self.path(prefix))?;
-        self.sent.push(Said {
-            peer,
-            prefix: *prefix,
-            word: Word::Sequence(path),
-        })?;
-        Ok(())
-    }
-
-    pub(super) fn come_up(&mut self, peer: Asn) -> Result<(), AllocError> {
-        if !self.is_established(peer) {
-            self.established.push(peer)?;
+        for &at in nlri {
+            self.hear(peer, at, along)?;
         }
         Ok(())
     }
 
-    pub(super) fn is_established(&self, peer: Asn) -> bool {
-        self.established.contains(&peer)
+    pub(super) fn heard(&self, peer: Asn, at: At) -> &[Asn] {
+        numbers_of(last_of(self.heard.as_slice(), peer, at))
     }
 
-    pub(super) fn forget(&mut self, peer: Asn) {
+    // Whether the word that was heard last gives no path.
+    pub(super) fn has_heard_other(&self, peer: Asn, at: At) -> bool {
+        match last_of(self.heard.as_slice(), peer, at) {
+            Some(said) => said.path.is_none(),
+            None => false,
+        }
+    }
+
+    pub(super) fn sent(&self, peer: Asn, at: At) -> &[Asn] {
+        numbers_of(last_of(self.sent.as_slice(), peer, at))
+    }
+
+    fn tell(&mut self, peer: Asn, at: At) -> Result<(), AllocError> {
+        let path = Some(Path::from_slice(self.alloc, self.path(at))?);
+        self.sent.push(Said { peer, at, path })?;
+        Ok(())
+    }
+
+    fn forget(&mut self, peer: Asn) {
         self.heard.retain(|one| one.peer != peer);
         self.sent.retain(|one| one.peer != peer);
         self.established.retain(|one| *one != peer);
     }
 
-    pub(super) fn originate(&mut self, prefix: &Prefix) -> Result<(), AllocError> {
-        self.originated.push(*prefix)?;
+    fn keep_best(&mut self, at: At) -> Result<(), AllocError> {
+        let path = self.best(at)?;
+        self.kept.push(Kept { at, path })?;
         Ok(())
     }
 
-    pub(super) fn withdraw(&mut self, prefix: &Prefix) {
-        self.originated.retain(|one| *one != *prefix);
-    }
-
-    pub(super) fn is_originated(&self, prefix: &Prefix) -> bool {
-        self.originated.contains(prefix)
-    }
-
-    pub(super) fn keep_best(&mut self, prefix: &Prefix) -> Result<(), AllocError> {
-        let path = self.best(prefix)?;
-        self.kept.push(Kept {
-            prefix: *prefix,
-            path,
-        })?;
+    // Whether that was done; a row that asks is none.
+    pub(super) fn does(&mut self, row: &Row) -> Result<(), AllocError> {
+        match row {
+            Row::At(at, Of::Originates) => self.originated.push(*at)?,
+            Row::At(at, Of::Withdraws) => self.originated.retain(|one| *one != *at),
+            Row::At(at, Of::Tells(peer)) => self.tell(*peer, *at)?,
+            Row::ComesUp(peer) => {
+                if !self.established.contains(peer) {
+                    self.established.push(*peer)?;
+                }
+            }
+            Row::Forgets(peer) => self.forget(*peer),
+            Row::Decides(Some(at)) => self.keep_best(*at)?,
+            Row::Decides(None) => {}
+            Row::Clears => {
+                self.kept.clear();
+                self.originated.clear();
+            }
+            _ => return Err(AllocError),
+        }
         Ok(())
     }
 
-    pub(super) fn path(&self, prefix: &Prefix) -> &[Asn] {
+    pub(super) fn is_originated(&self, at: At) -> bool {
+        self.originated.contains(&at)
+    }
+
+    pub(super) fn path(&self, at: At) -> &[Asn] {
         for one in self.kept.iter().rev() {
-            if one.prefix == *prefix {
+            if one.at == at {
                 return one.path.as_slice();
             }
         }
         &[]
     }
 
-    pub(super) fn clear(&mut self) {
-        self.kept.clear();
-        self.originated.clear();
-    }
-
-    fn is_origin(&self, prefix: &Prefix) -> bool {
-        self.network.is_origin(self.router, prefix)
-    }
-
-    fn policy(&self, prefix: &Prefix) -> Option<Chosen<'a>> {
-        let table = self.network.policies(self.router)?;
-        Some(table.for_prefix(prefix))
-    }
-
     // The best, by paths that are made. There is none where there is no such router.
-    pub(super) fn best(&self, prefix: &Prefix) -> Result<Path, AllocError> {
-        if self.is_origin(prefix) {
-            return self.own(prefix);
+    pub(super) fn best(&self, at: At) -> Result<Path, AllocError> {
+        let Some(prefix) = Prefix::new(at.0, at.1) else {
+            return Ok(Path::new(self.alloc));
+        };
+        if self.network.is_origin(self.router, &prefix) {
+            return self.own(at);
         }
-        match self.policy(prefix) {
-            Some(policy) => self.chosen(&policy, prefix),
+        match self.network.policies(self.router) {
+            Some(table) => self.chosen(&table.for_prefix(&prefix), at),
             None => Ok(Path::new(self.alloc)),
         }
     }
 
-    fn own(&self, prefix: &Prefix) -> Result<Path, AllocError> {
-        if self.is_originated(prefix) {
+    fn own(&self, at: At) -> Result<Path, AllocError> {
+        if self.is_originated(at) {
             Path::from_slice(self.alloc, &[self.router])
         } else {
             Ok(Path::new(self.alloc))
         }
     }
 
-    fn chosen(&self, policy: &Chosen, prefix: &Prefix) -> Result<Path, AllocError> {
+    fn chosen(&self, policy: &Chosen, at: At) -> Result<Path, AllocError> {
         let mut best: &[Asn] = &[];
         for peer in self.established.as_slice() {
-            let rest = self.heard(*peer, prefix);
+            let rest = self.heard(*peer, at);
             if !rest.is_empty() && self.is_better(policy, rest, best)? {
                 best = rest;
             }
@@ -233,10 +203,10 @@ impl<'a> Lists<'a> {
     // Whether the path along this one is permitted, and better than that along the best so far.
     fn is_better(&self, policy: &Chosen, rest: &[Asn], best: &[Asn]) -> Result<bool, AllocError> {
         let choice = Path::from_router(self.alloc, self.router, rest)?;
-        if best.is_empty() {
-            return Ok(permits(policy, &choice));
-        }
-        self.comes_before(policy, &choice, best)
+        Ok(
+            policy.permits(&choice)
+                && (best.is_empty() || self.comes_before(policy, &choice, best)?),
+        )
     }
 
     fn comes_before(
@@ -246,40 +216,34 @@ impl<'a> Lists<'a> {
         best: &[Asn],
     ) -> Result<bool, AllocError> {
         let best = Path::from_router(self.alloc, self.router, best)?;
-        Ok(permits(policy, choice) && prefers(policy, choice, &best))
+        Ok(policy.prefers(choice, &best))
     }
 
-    fn is_settled(&self, prefix: &Prefix) -> Result<bool, AllocError> {
-        let best = self.best(prefix)?;
-        Ok(best.as_slice() == self.path(prefix))
+    fn is_settled(&self, at: At) -> Result<bool, AllocError> {
+        let best = self.best(at)?;
+        Ok(best.as_slice() == self.path(at))
     }
 
-    pub(super) fn dirty(&self) -> Result<Option<Prefix>, AllocError> {
+    pub(super) fn dirty(&self) -> Result<Option<At>, AllocError> {
         for origin in self.network.origins() {
-            if !self.is_settled(&origin.prefix)? {
-                return Ok(Some(origin.prefix));
+            let at = (origin.prefix.addr(), origin.prefix.len());
+            if !self.is_settled(at)? {
+                return Ok(Some(at));
             }
         }
         Ok(None)
     }
 
-    fn is_served(&self, peer: Asn, prefix: &Prefix) -> bool {
-        self.sent(peer, prefix) == self.path(prefix)
-    }
-
-    pub(super) fn waiting(&self, peer: Asn) -> Option<Prefix> {
-        if !self.is_established(peer) {
+    pub(super) fn waiting(&self, peer: Asn) -> Option<At> {
+        if !self.established.contains(&peer) {
             return None;
         }
         for origin in self.network.origins() {
-            if !self.is_served(peer, &origin.prefix) {
-                return Some(origin.prefix);
+            let at = (origin.prefix.addr(), origin.prefix.len());
+            if self.sent(peer, at) != self.path(at) {
+                return Some(at);
             }
         }
         None
-    }
-
-    pub(super) fn is_awaited(&self) -> bool {
-        self.waiting(2).is_some() || self.waiting(3).is_some() || self.waiting(5).is_some()
     }
 }
