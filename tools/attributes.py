@@ -24,15 +24,21 @@ class Update:
     def __init__(self, body):
         size = struct.unpack_from(">H", body)[0]
         end = 4 + size + struct.unpack_from(">H", body, 2 + size)[0]
-        self.withdraws, self.announces, self.attributes = size > 0, len(body) > end, {}
-        at = 4 + size
-        while at < end:
-            flags, code, length = body[at], body[at + 1], body[at + 2]
-            at += 3
-            if flags & EXTENDED_LENGTH:
-                length, at = length << 8 | body[at], at + 1
-            self.attributes[code] = bytes(body[at:at + length])
-            at += length
+        self.withdraws, self.announces = size > 0, len(body) > end
+        self.attributes = attributes_of(body, 4 + size, end)
+
+
+def attributes_of(octets, at, end):
+    """The value of each attribute between two places, by code."""
+    found = {}
+    while at < end:
+        flags, code, length = octets[at], octets[at + 1], octets[at + 2]
+        at += 3
+        if flags & EXTENDED_LENGTH:
+            length, at = length << 8 | octets[at], at + 1
+        found[code] = bytes(octets[at:at + length])
+        at += length
+    return found
 
 
 def remark_of(body, width, identified=()):

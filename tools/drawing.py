@@ -163,7 +163,7 @@ class Picture(Canvas):
     def draw_router(self, router, is_unstable):
         x, y = self.layout.spots[router]
         ranked = self.network.ranked(router, self.drawn.prefix) if self.origin else None
-        about = [f"router {router}"] + ["-".join(map(str, path)) for path in ranked or []]
+        about = [f"router {self.network.router_text(router)}"] + list(map(self.network.path_text, ranked or []))
         self.elements.append("<g>")
         self.add("title", "\n".join(about))
         if router == self.origin:

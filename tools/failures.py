@@ -1,6 +1,6 @@
 """Failures of a network that is played: what fails, the states behind it, and how other orders of the same events
 end."""
-from network import link_text, originations, routes_of, starts
+from network import originations, routes_of, starts
 from orders import at_random, race_of
 from program import Refusal
 from tracing import Again, outcome_of, rest_bound, stages_of
@@ -21,8 +21,8 @@ class Failure:
 
     def name(self):
         if self.crash:
-            return f"router {self.crash}"
-        return f"link{'s' * (len(self.links) > 1)} {', '.join(map(link_text, self.links))}"
+            return f"router {self.network.name_of(self.crash)}"
+        return f"link{'s' * (len(self.links) > 1)} {', '.join(map(self.network.link_text, self.links))}"
 
     def title(self):
         """What happens, in words."""

@@ -181,11 +181,11 @@ def rule_texts(network, router, drawn):
     if router == origin:
         return [(str(drawn.prefix), "")]
     if ranked is None:
-        return [("-".join(map(str, route)), "kept")] if route else []
+        return [(network.path_text(route), "kept")] if route else []
     texts = []
     for path in ranked:
         kind = "kept" if path == route else "best" if drawn.wants(router, path) else ""
-        texts.append(("-".join(map(str, path)) + " best" * (kind == "best"), kind))
+        texts.append((network.path_text(path) + " best" * (kind == "best"), kind))
     if len(texts) > MOST_PATHS_SHOWN:
         texts[MOST_PATHS_SHOWN - 1:] = [("..", "")]
     return texts or [("no path", "")]

@@ -1,5 +1,5 @@
 """The paths of a prefix that can come to routers, and what stands in rules that never can."""
-from network import LONGEST_PATH, path_text
+from network import LONGEST_PATH
 
 # How many paths of a prefix are listed.
 MOST_PATHS_OF_PREFIX = 20000
@@ -60,17 +60,18 @@ def warnings(network, live):
     missing = {}
     for line, path, why in hopeless_paths(network, live):
         if isinstance(why, str):
-            yield line, f"{path_text(path) + ' can never come: ' if path else ''}{why}"
+            yield line, f"{network.path_text(path) + ' can never come: ' if path else ''}{why}"
         else:
             missing.setdefault(frozenset(why), {}).setdefault((line, path), why)
     for paths in missing.values():
         ((line, path), link), more = next(iter(paths.items())), len(paths) - 1
         others = f", nor can {more} other path{'s' * (more > 1)} of rules" if more else ""
-        yield line, f"{path_text(path)} can never come{others}: there is no link {' '.join(map(str, link))}"
+        said = " ".join(map(network.name_of, link))
+        yield line, f"{network.path_text(path)} can never come{others}: there is no link {said}"
     for prefix in network.origins:
         without = [router for router in network.routers if live[prefix] and not live[prefix][router]]
         if without:
-            yield None, f"no path for {prefix} can ever come to: {', '.join(map(str, without))}"
+            yield None, f"no path for {prefix} can ever come to: {', '.join(map(network.name_of, without))}"
 
 
 def hopeless_paths(network, live):
@@ -84,7 +85,8 @@ def hopeless_paths(network, live):
             for path in rule.paths if served else []:
                 ended = [prefix for prefix in served if network.origins[prefix] == path[-1]]
                 if not ended:
-                    yield rule.line, None, f"{path_text(path)}: {path[-1]} is no origin of a prefix of this rule"
+                    yield rule.line, None, (f"{network.path_text(path)}: {network.name_of(path[-1])} is no origin of a "
+                                            "prefix of this rule")
                 for prefix in ended:
                     if live[prefix] and path not in live[prefix][router]:
                         yield rule.line, path, obstacle(network, live[prefix], path)
@@ -95,4 +97,4 @@ def obstacle(network, live, path):
     at = next(at for at in range(len(path) - 2, -1, -1) if path[at:] not in live[path[at]])
     if path[at + 1] not in network.peers[path[at]]:
         return path[at], path[at + 1]
-    return f"router {path[at]} does not permit {path_text(path[at:])}"
+    return f"router {network.name_of(path[at])} does not permit {network.path_text(path[at:])}"

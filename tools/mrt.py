@@ -1,5 +1,5 @@
 """What the tools read of MRT files (RFC 6396), as collectors of routes write them: the messages and the changes of
-state of each peer."""
+state of each peer, and the routes of a dump of tables."""
 import struct
 
 from captures import SECOND, Stream
@@ -13,6 +13,8 @@ TYPES = {11: "OSPFv2", TABLE_DUMP: "TABLE_DUMP", TABLE_DUMP_V2: "TABLE_DUMP_V2",
 # collector said itself, and those with path identifiers (RFC 8050).
 CHANGES, MESSAGES = {0, 5}, {1, 4, 6, 7, 8, 9, 10, 11}
 WIDE, LOCAL, IDENTIFIED = {4, 5, 7, 9, 11}, {6, 7, 10, 11}, {8, 9, 10, 11}
+# The subtypes of TABLE_DUMP_V2 that have routes of IPv4, without path identifiers and with them (RFC 8050).
+ROUTES, IDENTIFIED_ROUTES = 2, 8
 STATES = {1: "Idle", 2: "Connect", 3: "Active", 4: "OpenSent", 5: "OpenConfirm", 6: "Established"}
 IDLE = 1
 # The octets of an address, by its family.
@@ -153,3 +155,32 @@ def peerings_of(data, losses):
         for stream in peering.streams.values():
             stream.join()
     return peerings.found
+
+
+def is_table(data):
+    """Whether the first record is of a dump of tables (TABLE_DUMP_V2)."""
+    return struct.unpack_from(">H", data, 4)[0] == TABLE_DUMP_V2
+
+
+def table_routes(data, losses):
+    """The prefix, its length in front, and the attributes of each route of IPv4 in a dump of tables, whichever peer it
+    is of. AS numbers have four octets."""
+    for number, (_, kind, subtype, body) in enumerate(records_of(data, losses), 1):
+        if kind == TABLE_DUMP_V2 and subtype in (ROUTES, IDENTIFIED_ROUTES):
+            try:
+                yield from record_routes(body, 4 * (subtype == IDENTIFIED_ROUTES))
+            except (struct.error, IndexError):
+                losses.append(f"record {number} is no record of routes")
+
+
+def record_routes(body, identifier):
+    """The routes of a record. Each has a peer, a time, and maybe an identifier in front of its attributes."""
+    size = 1 + (body[4] + 7) // 8
+    prefix, at = bytes(body[4:4 + size]), 6 + size
+    for _ in range(struct.unpack_from(">H", body, 4 + size)[0]):
+        at += 6 + identifier
+        length = struct.unpack_from(">H", body, at)[0]
+        at += 2 + length
+        if at > len(body):
+            raise IndexError
+        yield prefix, bytes(body[at - length:at])

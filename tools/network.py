@@ -98,6 +98,10 @@ NAME = re.compile(rf"# (\d+) called ({NAME_FORM})\s*")
 KEEPS = re.compile(r"# (\d+) keeps routes of peers that restart\s*")
 
 
+# The comments that a text keeps which is written of a network.
+REMARKS = RELATION, PLACE, NAME, KEEPS
+
+
 def places_of(lines):
     """Where comments among the lines put routers in a picture."""
     for line in lines:
@@ -114,18 +118,51 @@ def names_of(lines):
             yield int(found[1]), found[2]
 
 
-class Network:
+def is_name(word):
+    """Whether comments can call a router so."""
+    return word is not None and re.fullmatch(NAME_FORM, word) is not None
+
+
+def telling(names):
+    """The names of routers that tell them apart: of no two, and no number."""
+    given = list(names.values())
+    return {router: name for router, name in names.items()
+            if given.count(name) == 1 and not name.isdigit() and is_name(name)}
+
+
+class Named:
+    """How routers, paths and links are written of routers that have names: `called` has those that tell them apart."""
+
+    called = {}
+
+    def name_of(self, router):
+        return self.called.get(router, str(router))
+
+    def router_text(self, router):
+        """The number of a router, and its name."""
+        return f"{router} {self.called[router]}" if router in self.called else str(router)
+
+    def path_text(self, path):
+        return path_text(map(self.name_of, path))
+
+    def link_text(self, link):
+        return link_text(map(self.name_of, link))
+
+
+class Network(Named):
     """The routers, links, origins and rules of a network.
 
     `lines` are its lines without those that are skipped, `peers` the peers of each router, rising, `origins` the
     router of each prefix, by address, then length, `rules` those of each router, `cut` the most octets of a piece,
     `hold` the hold time in seconds, `width` the octets of an AS number. As comments say it, `relations` is what the
     second of two routers is to the first: "customer", "provider" or "peer"; `places` is where routers stand in a
-    picture, `names` what they are called, and `keeping` those that keep the routes of a peer that restarts."""
+    picture, `names` what they are called, `called` the names by which they are told apart, `remarks` the comments that
+    say all this, and `keeping` those that keep the routes of a peer that restarts."""
 
     def __init__(self, lines):
         self.lines, self.routers, self.links, self.peers, self.rules = [], [], [], {}, {}
         self.relations, self.names = dict(relations_of(lines)), dict(names_of(lines))
+        self.called = telling(self.names)
         self.keeping = [int(found[1]) for found in map(KEEPS.fullmatch, lines) if found]
         self.cut, self.hold, self.width, origins = 4096, 90, 2, {}
         for number, line in enumerate(lines, 1):
@@ -153,6 +190,7 @@ class Network:
             elif words[0] == "rank":
                 self.rules[first].append(Rule(Prefix.read(words[2]), [read_path(word) for word in words[3:]], number))
         self.routers.sort()
+        self.remarks = "".join(line + "\n" for line in lines if any(map(re.fullmatch, REMARKS, [line] * len(REMARKS))))
         self.places = {router: place for router, place in places_of(lines) if router in self.peers}
         for peers in self.peers.values():
             peers.sort()
@@ -222,11 +260,6 @@ def read_link(network, word):
 
 def link_text(link):
     return "-".join(map(str, link))
-
-
-def router_text(network, router):
-    """The number of a router, and what a comment calls it."""
-    return f"{router} {network.names[router]}" if router in network.names else str(router)
 
 
 def starts(network):

@@ -129,9 +129,9 @@ def parting(orders):
     return (one[at] if at < len(one) else None), (other[at] if at < len(other) else None)
 
 
-def sentence(one, other):
+def sentence(network, one, other):
     """Two hearings, the first before the second, in words."""
-    (sender, router), (later, last) = one, other
+    sender, router, later, last = map(network.name_of, one + other)
     return f"{router} hears {sender} before {later}" if router == last else f"{router} hears {sender} before {last} hears {later}"
 
 

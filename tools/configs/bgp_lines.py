@@ -177,9 +177,6 @@ class BgpLines(Blocks):
 
     def do_interval(self, words, line):
         self.say(words, "interval", int(words[3]) if words[0] != "no" else None)
-        if words[0] != "no" and int(words[3]):
-            self.router.warn(self.place, f"'{line.strip()}': UPDATEs wait up to {words[3]} seconds, which changes no end, "
-                                         "and may change which of several ends comes")
 
     def do_kept(self, words, line):
         """Routes that outlast a restart."""

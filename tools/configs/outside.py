@@ -1,12 +1,12 @@
 """Neighbors without a configuration: what an AS outside a set was seen to announce, as the configuration of a router."""
 import struct
 
-from attributes import AS_PATH, Update, segments_of
+from attributes import AS_PATH, Update, attributes_of, segments_of
 from configs.reader import read_router
 from configs.sessions import dotted
 from configs.syntax import prefix_of
 from messages import UPDATE, messages_of
-from mrt import is_mrt, peerings_of
+from mrt import is_mrt, is_table, peerings_of, table_routes
 from network import Prefix
 from program import Refusal, read_octets
 from reports import is_json, numbers_of, objects_of
@@ -22,7 +22,7 @@ class Outside:
         self.asn, self.name, self.paths = asn, name, {}
         data = memoryview(read_octets(name))
         if is_mrt(data):
-            self.read_records(data)
+            (self.read_table if is_table(data) else self.read_records)(data)
         else:
             text = bytes(data).decode("latin-1")
             (self.read_json if is_json(text) else self.read_lines)(text)
@@ -57,6 +57,19 @@ class Outside:
                 for route in routes if isinstance(routes, list) else [routes]:
                     if prefix_of(word) and isinstance(route, dict):
                         self.see(Prefix.read(word), numbers_of(route, self.name))
+
+    def read_table(self, data):
+        """The routes of a dump of tables; of several peers of the AS those of the last. As in messages, one whose
+        attributes can't be read is passed over."""
+        losses = []
+        for prefix, attributes in table_routes(data, losses):
+            try:
+                path = path_of(attributes_of(attributes, 0, len(attributes)).get(AS_PATH, b""), 4)
+                self.see(next(read_prefixes(prefix)), path)
+            except (struct.error, IndexError, ValueError):
+                continue
+        if losses:
+            raise Refusal(f"{self.name}: {losses[0]}")
 
     def read_records(self, data):
         """What was last said in the messages of an MRT file."""

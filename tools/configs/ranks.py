@@ -1,10 +1,8 @@
 """The rank lines of a set of configurations, and its network as a text."""
-import re
-
 from configs.places import Reasons, refusal
 from configs.sessions import dotted
 from configs.ways import Follower
-from network import (GREATEST_OF_TWO_OCTETS, MOST_PATHS, MOST_PREFIXES, MOST_RULES, NAME_FORM, Network, Prefix,
+from network import (GREATEST_OF_TWO_OCTETS, MOST_PATHS, MOST_PREFIXES, MOST_RULES, Network, Prefix, is_name,
                      originations, path_text, starts)
 from program import Refusal
 
@@ -57,11 +55,12 @@ class Ranks:
                 for tie in order.ties:
                     found.setdefault((asn, tie.paths), (tie, []))[1].append(prefix)
         for (asn, paths), (tie, prefixes) in found.items():
-            above = [f"{path_text(other[0])} above {path_text(block[0])}" for block in tie.blocks
+            text = self.set.path_text
+            above = [f"{text(other[0])} above {text(block[0])}" for block in tie.blocks
                      for other in tie.blocks if tie.is_above(other, block)]
-            words = listed(map(path_text, paths)) + (f" (by MED {listed(above)})" if above else "")
+            words = listed(map(text, paths)) + (f" (by MED {listed(above)})" if above else "")
             yield self.set.routers[asn].place, (
-                f"{asn} {listed(map(str, prefixes))}: tie: {words}: FRR keeps the one that it selected first, and here "
+                f"{self.set.router_text(asn)} {listed(map(str, prefixes))}: tie: {words}: FRR keeps the one that it selected first, and here "
                 "they stand by router id (without 'bgp bestpath compare-routerid')")
 
     def paths(self, prefix):
@@ -181,7 +180,7 @@ def network_lines(ranks, most=None):
     routers, said = ranks.set.routers, []
     lines = ["asn 4"] if max(routers) > GREATEST_OF_TWO_OCTETS else []
     lines += [f"# {asn} called {router.host}" for asn, router in routers.items()
-              if router.host and re.fullmatch(NAME_FORM, router.host)]
+              if is_name(router.host)]
     lines += [f"# {asn} keeps routes of peers that restart" for asn, router in routers.items() if router.keeps_routes]
     lines += [f"router {asn} {dotted(router.router_id.name)}" for asn, router in routers.items()]
     lines += [f"link {asn} {peer}" for asn, ends in ranks.set.ends.items() for peer in sorted(ends) if asn < peer]

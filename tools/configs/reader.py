@@ -73,6 +73,21 @@ def without_entries(router):
             router.warn(place, f"prefix-list {value} has no entries: it fits {'nothing' if is_above else 'everything'}")
 
 
+def waiting(router):
+    """A warning for each neighbor at which UPDATEs wait, and what that may come to where duplicates are suppressed."""
+    suppresses = router.suppresses is None or router.suppresses.name
+    for neighbor in [*router.groups.values(), *router.neighbors.values()]:
+        line = neighbor.said.get("interval")
+        if line and line.name:
+            said = "which changes no end, and may change which of several ends comes"
+            if suppresses:
+                said = ("and FRR may leave the neighbor without a route that it has: one that comes again while its "
+                        "withdrawal waits is suppressed as a duplicate, and the withdrawal goes out all the same; not so "
+                        "with 'no bgp suppress-duplicates'")
+            router.warn(line.place, f"neighbor {neighbor.key} advertisement-interval: UPDATEs wait up to {line.name} "
+                                    f"seconds, {said}")
+
+
 def choose_id(router):
     """Takes the router id that the interfaces give: the greatest address of `lo`, else of the others."""
     own = [address for address in router.loopbacks or router.addresses if address >> 24 != 127]
@@ -105,6 +120,7 @@ def obey(text, name):
         reasons.attempt(check_detection, router, neighbor)
     undefined(router)
     without_entries(router)
+    waiting(router)
     return router, reasons
 
 

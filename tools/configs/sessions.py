@@ -3,7 +3,7 @@ from collections import namedtuple
 
 from configs.places import OF_ITS_OWN, Passed, Reasons, refusal
 from configs.routes import Denial
-from network import MOST_LINKS, MOST_ROUTERS
+from network import MOST_LINKS, MOST_ROUTERS, Named, telling
 from program import Refusal
 
 # An end of a session: the router and its neighbor.
@@ -35,7 +35,7 @@ def by_number(routers, reasons):
     return {asn: by_asn[asn] for asn in sorted(by_asn)}
 
 
-class Set:
+class Set(Named):
     """The routers of a set of configurations, and their sessions.
 
     `ends` has for each router's number its end of each session, by the number of the peer; `up` those of sessions that
@@ -45,6 +45,7 @@ class Set:
     def __init__(self, routers, reasons=None):
         self.reasons = reasons or Reasons()
         self.routers = by_number(routers, self.reasons)
+        self.called = telling({asn: router.host for asn, router in self.routers.items() if router.host})
         self.owners, self.ends = {}, {asn: {} for asn in self.routers}
         self.find_owners()
         self.find_external()

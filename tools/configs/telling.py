@@ -12,7 +12,7 @@ from configs.ranks import Ranks, network_lines, schedule_lines
 from configs.routes import ORIGINS, Denial
 from configs.sessions import dotted
 from configs.syntax import number_of, prefix_of
-from network import MOST_PATHS, Prefix, path_text, routes_of, words_of
+from network import MOST_PATHS, Named, Prefix, path_text, routes_of, telling, words_of
 from program import Refusal
 from reports import is_json, read_report
 
@@ -75,8 +75,7 @@ def columns(rows):
 
 def router_named(routers, word):
     """The number of a router that a word names, by its number or by its host's name; None of nobody."""
-    named = [asn for asn, router in routers.routers.items() if router.host == word]
-    return named[0] if len(named) == 1 else number_of(word)
+    return next((asn for asn, name in routers.called.items() if name == word), number_of(word))
 
 
 def explain(ranks, word, prefix, names):
@@ -94,9 +93,9 @@ def explain(ranks, word, prefix, names):
         if way.path in tied:
             peer = ranks.set.routers[way.path[1]]
             rest.append(f"tie {tied[way.path]}: router id {dotted(peer.router_id.name)}")
-        rows.append([str(place), path_text(way.path), before, "  ".join([said[at][1], *rest])])
+        rows.append([str(place), ranks.set.path_text(way.path), before, "  ".join([said[at][1], *rest])])
     lines = columns(rows)
-    rows = [["denied", path_text(path), f"{names.of(denial.place)} {denial.why}"]
+    rows = [["denied", ranks.set.path_text(path), f"{names.of(denial.place)} {denial.why}"]
             for path, denial in ranks.follower.denials[prefix].items() if path[0] == asn and asn not in path[1:]]
     return lines + columns(rows) or ["nothing comes here"]
 
@@ -257,6 +256,14 @@ class Reordered:
 
 # ---- what a change does
 
+class Both(Named):
+    """What the routers of two sets are called."""
+
+    def __init__(self, old, new):
+        self.called = telling({asn: router.host for routers in (old, new) for asn, router in routers.routers.items()
+                               if router.host})
+
+
 class Change:
     """Two sets of configurations, and what is other in the second."""
 
@@ -266,7 +273,7 @@ class Change:
                 raise Refusal(f"no router announces {prefix}")
         self.sides = [Ranks(routers, [one for one in chosen if one in routers.origins()] if chosen else None, True)
                       for routers in (old, new)]
-        self.names = [Names([]), Names([])]
+        self.names, self.both = [Names([]), Names([])], Both(old, new)
         self.ends = [play(program, ranks, most) for ranks in self.sides]
 
     def lines(self):
@@ -274,7 +281,7 @@ class Change:
         found, alike = [], {}
         old, new = self.sides
         for asn in sorted(set(old.set.routers) ^ set(new.set.routers)):
-            found.append(f"{asn} is {'gone' if asn in old.set.routers else 'new'}")
+            found.append(f"{self.both.router_text(asn)} is {'gone' if asn in old.set.routers else 'new'}")
         for prefix in sorted(set(old.origins) | set(new.origins)):
             ends = [ranks.origins.get(prefix) for ranks in self.sides]
             if ends[0] != ends[1]:
@@ -284,7 +291,7 @@ class Change:
                 if more:
                     alike.setdefault((asn, *more), []).append(prefix)
         for (asn, *more), prefixes in alike.items():
-            found += [f"{asn} {', '.join(map(str, prefixes))}"] + more
+            found += [f"{self.both.router_text(asn)} {', '.join(map(str, prefixes))}"] + more
         return found + self.end_lines()
 
     def ways(self, at, asn, prefix):
@@ -297,7 +304,7 @@ class Change:
         denied = next((path[cut:] for cut in reversed(range(len(path))) if path[cut:] in denials), None)
         if denied is None:
             return ": it does not come here"
-        where = "" if denied == path else f" at {denied[0]}"
+        where = "" if denied == path else f" at {self.both.name_of(denied[0])}"
         return f": denied{where} by {denials[denied].place} {denials[denied].why}"
 
     def router_lines(self, asn, prefix):
@@ -306,10 +313,10 @@ class Change:
         for path, (place, way) in new.items():
             if path not in old:
                 said = ", ".join(text for _, text in attributes_of(self.sides[1].set.routers[asn], way, self.names[1]))
-                found.append(f"  + {place} {path_text(path)}  {said}; before{self.why(0, path, prefix)}")
+                found.append(f"  + {place} {self.both.path_text(path)}  {said}; before{self.why(0, path, prefix)}")
         for path, (place, way) in old.items():
             if path not in new:
-                found.append(f"  - {place} {path_text(path)}{self.why(1, path, prefix)}")
+                found.append(f"  - {place} {self.both.path_text(path)}{self.why(1, path, prefix)}")
         kept = [[path for path in side if path in old and path in new] for side in (old, new)]
         for path in kept[1]:
             said = [dict(attributes_of(self.sides[at].set.routers[asn], side[path][1], self.names[at]))
@@ -320,9 +327,9 @@ class Change:
                 what = [f"{said[1].get(name, 'no ' + name)}, was {said[0].get(name, 'none')}"
                         for name in {**said[0], **said[1]}
                         if said[0].get(name, "").split(" (")[0] != said[1].get(name, "").split(" (")[0]]
-                found.append(f"  = {new[path][0]} (was {old[path][0]}) {path_text(path)}  {'; '.join(what)}")
+                found.append(f"  = {new[path][0]} (was {old[path][0]}) {self.both.path_text(path)}  {'; '.join(what)}")
             elif is_moved:
-                found.append(f"  = {new[path][0]} (was {old[path][0]}) {path_text(path)}")
+                found.append(f"  = {new[path][0]} (was {old[path][0]}) {self.both.path_text(path)}")
         return found
 
     def end_lines(self):
@@ -335,5 +342,5 @@ class Change:
             if before.get(key) != after.get(key):
                 asn, prefix = key
                 alike.setdefault((asn, after.get(key, ()), before.get(key, ())), []).append(prefix)
-        return found + [f"end {asn} {', '.join(map(str, prefixes))} {path_text(new)}, was {path_text(old)}"
-                        for (asn, new, old), prefixes in alike.items()]
+        return found + [f"end {self.both.router_text(asn)} {', '.join(map(str, prefixes))} {self.both.path_text(new)}, was "
+                        f"{self.both.path_text(old)}" for (asn, new, old), prefixes in alike.items()]

@@ -42,6 +42,9 @@ CASES = [
      pair("{ bgp_community.add((16,20)); bgp_community.add((17,5)); bgp_community.add((18,9)); "
           "bgp_community.add((7,7)); bgp_community.delete([(16..17, 5..20), (*,9)]); accept; }"),
      {(2, ONE): ["2-1 c 7:7"]}),
+    ("ranges between names, which may go down and then have nothing",
+     pair("{ if (1,20) ~ [D..C] then bgp_med = 1; if (1,2) ~ [C..D] || (2,3) ~ [C..D] then bgp_med = 2; accept; }",
+          top2="define C = (2,3); / define D = (1,9);"), {(2, ONE): ["2-1 med 1"]}),
     ("large communities with ranges and stars",
      pair("{ bgp_large_community.add((1,2,3)); bgp_large_community.add((2,5,9)); bgp_large_community.add((3,1,1)); "
           "bgp_large_community.delete([(1,*,*), (2,5,8..9)]); accept; }"), {(2, ONE): ["2-1 l 3:1:1"]}),

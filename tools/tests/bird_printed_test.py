@@ -140,6 +140,12 @@ class Printed(unittest.TestCase):
             self.assertEqual(status, wanted[0])
             self.assertIn(wanted[1], error)
 
+    def test_a_file_that_includes_itself(self):
+        _, names = self.written({**line(top2='include "more.inc";'), "more.inc": 'include "more.inc";\n'})
+        status, out, error = run("config", *names)
+        self.assertEqual((status, out), (1, ""))
+        self.assertIn("more.inc:1: 'include': files include one another more than 8 deep", error)
+
     def test_the_language_of_a_file(self):
         files = pair()
         files["r1.conf"] = "# router bgp 7, once\n" + files["r1.conf"]

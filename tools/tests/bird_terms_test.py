@@ -112,6 +112,7 @@ class Refused(Refuses):
                 ("{ if (1,2) ~ [(rt, 1, 2)] then accept; }", "extended"),
                 ("{ if (1,2) ~ [(1,*)..(2,3)] then accept; }", "has ranges itself"),
                 ("{ if bgp_path ~ [= x =] then accept; }", "no number that is defined"),
+                ("{ if 5 ~ [1..(\"a\")] then accept; }", "no constant number"),
                 ("{ if f then accept; }", "is defined nowhere"), ("{ if h then accept; }", "'('"),
                 ("{ if o then accept; }", "a filter, and no value"), ("{ h = 5; accept; }", "'('"),
                 ("{ o = 5; accept; }", "a filter, and nothing that can be set"), ("{ net.len; accept; }", "'='"),
@@ -119,6 +120,14 @@ class Refused(Refuses):
                 ("{ bgp_path.foo(1); accept; }", ".prepend")):
             self.refused(pair(text, top2="define S = [1,2]; / filter o { accept; } / function h() { return 1; }"),
                          "filter f", why)
+
+    def test_what_a_protocol_lacks(self):
+        own = "local 10.255.2.1 as 64602"
+        for new, why in (("local 10.255.2.1", "no line says the AS number of its own"),
+                         (own + "; require roles", "no role of its own, and roles are required")):
+            text = pair()["r2.conf"].replace(own, new)
+            self.refused({**pair(), "r2.conf": text[:text.rindex("}")] + "} # the end\n"}, "# the end", why)
+        self.refused(pair(top2="function g(foo a) { return 1; }"), "function g", "'foo' is no type of a variable")
 
     def test_options(self):
         for option, why in (("default bgp_med (bgp_med);", "no constant number"),

@@ -141,6 +141,16 @@ class PassedOver(unittest.TestCase):
         self.assertEqual(routers.ends[65002][65001].neighbor.value("interval"), 30)
         self.assertIn("# 65002 keeps routes of peers that restart", network_lines(Ranks(routers))[0])
 
+    def test_duplicates_that_are_suppressed(self):
+        """As FRR does by itself: with an interval a withdrawal may go out last."""
+        for lines, is_told in (("", True), ("bgp suppress-duplicates", True), ("no bgp suppress-duplicates", False)):
+            for above in (True, False):
+                own = [lines, "neighbor 10.255.1.1 advertisement-interval 5"][::1 if above else -1]
+                said = [str(place) + why for place, why in read_set(pair("", " / ".join(own))).notes()]
+                self.assertEqual(["is suppressed as a duplicate" in why for why in said], [is_told], said)
+        self.assertEqual(read_set(pair("", "neighbor 10.255.1.1 advertisement-interval 0")).notes(), [])
+        self.assertEqual(read_set(pair("", "bgp suppress-duplicates")).notes(), [])
+
     def test_a_version_above_this_one(self):
         for version, is_told in (("8.4.4", False), ("8.5", True), ("10.0", True), ("7.5", False)):
             files = pair()
@@ -156,9 +166,31 @@ class PassedOver(unittest.TestCase):
         names = Names(list(files))
         self.assertEqual(explain(ranks, "east-1", Prefix.read("10.1.0.0/16"), names),
                          explain(ranks, "65002", Prefix.read("10.1.0.0/16"), names))
+        self.assertTrue(explain(ranks, "east-1", Prefix.read("10.1.0.0/16"), names)[0].startswith("1  east-1-west  "))
         network = Network(lines)
         for word in ("west-east-1", "east-1-west", "65001-east-1"):
             self.assertEqual(read_link(network, word), (65001, 65002))
+
+
+    def test_names_that_tell_no_routers_apart(self):
+        """Two alike, a number, and what no comment can say."""
+        for hosts in (("same", "same"), ("65002", "65001"), ("two,words", "")):
+            files = {name: f"hostname {host}\n" * bool(host) + text for (name, text), host in zip(pair().items(), hosts)}
+            said = explain(Ranks(read_set(files)), "65002", Prefix.read("10.1.0.0/16"), Names(list(files)))
+            self.assertTrue(said[0].startswith("1  65002-65001  "), said)
+
+    def test_names_in_what_a_change_does(self):
+        with tempfile.TemporaryDirectory() as folder:
+            sets = []
+            for at, preference in enumerate((150, 250)):
+                pathlib.Path(folder, str(at)).mkdir()
+                files = into(f"route-map IN permit 10 / set local-preference {preference}")
+                sets.append([str(pathlib.Path(folder, str(at), name)) for name in files])
+                for (name, text), path in zip(files.items(), sets[-1]):
+                    pathlib.Path(path).write_text(f"hostname {'east' if name == 'r2.conf' else 'west'}\n" + text)
+            out = run("config", "--check", *sets[0], "--", *sets[1])[1]
+        self.assertIn("65002 east 10.1.0.0/16", out.splitlines()[0])
+        self.assertIn("  = 1 (was 1) east-west  local-pref 250", out)
 
 
 class OfOutside(unittest.TestCase):
@@ -183,7 +215,7 @@ class OfOutside(unittest.TestCase):
             status, out, error = run("config", "--network", *names, "--external", asn, seen)
             return status, out, error.replace(folder + "/", "")
 
-    def test_three_forms_say_the_same(self):
+    def test_all_forms_say_the_same(self):
         text = b"# seen\n8.8.8.0/24 64999 15169\n9.9.9.0/24\n"
         routes = {"8.8.8.0/24": [{"path": "64999 15169", "valid": True}, {"path": "65002 64999 15169", "valid": True}],
                   "9.9.9.0/24": [{"path": "64999", "valid": True}], "7.0.0.0/8": [{"path": "1 2", "valid": True}]}
@@ -193,20 +225,54 @@ class OfOutside(unittest.TestCase):
                            (("9.9.9.0/24", [64999]), ("8.8.8.0/24", [64999, 1]), ("8.8.8.0/24", [64999, 15169]),
                             ("5.0.0.0/8", [64999])))
         updates += records(message(2, struct.pack(">H", 2) + bytes([8, 5]) + struct.pack(">H", 0)))
-        found = [self.lines("64999", octets) for octets in (text, table, received, updates)]
+        dumps = [b"".join(self.dump(identifier)) for identifier in (b"", bytes(4))]
+        found = [self.lines("64999", octets) for octets in (text, table, received, updates, *dumps)]
         for status, out, error in found:
             self.assertEqual((status, sorted(out.splitlines())), (0, sorted(found[0][1].splitlines())), error)
         self.assertIn("link 64999 65001\nlink 64999 65002\n", found[0][1])
         self.assertIn("rank 65001 8.8.8.0/24 65001-64999 65001-65002-64999\n", found[0][1])
 
     @staticmethod
-    def update(prefix, path):
-        address, length = prefix.split("/")
+    def attributes(path, kind=2):
         numbers = b"".join(struct.pack(">I", number) for number in path)
-        attributes = (bytes([0x40, 1, 1, 0, 0x40, 2, 2 + len(numbers), 2, len(path)]) + numbers
-                      + bytes([0x40, 3, 4, 10, 0, 0, 1]))
-        octets = bytes(map(int, address.split(".")))[:-(-int(length) // 8)]
-        return message(2, struct.pack(">HH", 0, len(attributes)) + attributes + bytes([int(length)]) + octets)
+        value = bytes([kind, len(path)]) + numbers if path else b""
+        return bytes([0x40, 1, 1, 0, 0x40, 2, len(value)]) + value + bytes([0x40, 3, 4, 10, 0, 0, 1])
+
+    @staticmethod
+    def prefix(text):
+        address, length = text.split("/")
+        return bytes([int(length)]) + bytes(map(int, address.split(".")))[:-(-int(length) // 8)]
+
+    def update(self, prefix, path):
+        attributes = self.attributes(path)
+        return message(2, struct.pack(">HH", 0, len(attributes)) + attributes + self.prefix(prefix))
+
+    def dump(self, identifier=b""):
+        """A dump of tables with two peers: a table of the peers, then a record for each prefix, one of IPv6 among them."""
+        yield record(13, 1, bytes([10, 0, 0, 9, 0, 4]) + b"view" + struct.pack(">H", 2)
+                     + b"".join(bytes([2, 10, 0, 0, place, 10, 9, 0, place]) + struct.pack(">I", asn)
+                                for place, asn in ((1, 64999), (2, 7))))
+        for number, (prefix, paths) in enumerate((("8.8.8.0/24", [(2, [64999, 15169]), (2, [7, 64999])]),
+                                                  ("9.9.9.0/24", [(2, [7, 9]), (2, [64999])]),
+                                                  ("5.0.0.0/8", [(1, [64999, 5]), (2, [])]))):
+            entries = b"".join(struct.pack(">HI", place, 60) + identifier + struct.pack(">H", len(self.attributes(path, kind)))
+                               + self.attributes(path, kind) for place, (kind, path) in enumerate(paths))
+            yield record(13, 8 if identifier else 2, struct.pack(">I", number) + self.prefix(prefix)
+                         + struct.pack(">H", len(paths)) + entries)
+        yield record(13, 4, struct.pack(">I", 9) + bytes([16, 0x20, 1]) + bytes(2))
+
+    def test_a_dump_that_is_cut_or_damaged(self):
+        parts = list(self.dump())
+        whole = b"".join(parts)
+        for octets, why in ((whole[:-3], "ends in the middle of record 5"), (parts[0], "nothing that AS 64999 announces"),
+                            (parts[0] + record(13, 2, parts[1][12:-9]), "record 2 is no record of routes"),
+                            (parts[0] + record(13, 2, bytes(4)), "record 2 is no record of routes"),
+                            (parts[0] + record(13, 2, bytes(4) + bytes([40, 1, 2, 3, 4, 5, 0, 1]) + bytes(8)),
+                             "nothing that AS 64999 announces"),
+                            (record(12, 1, bytes(40)), "a dump of a table (TABLE_DUMP, RFC 6396)")):
+            status, out, error = self.lines("64999", octets)
+            self.assertEqual((status, out), (1, ""))
+            self.assertIn(why, error)
 
     def test_longer_paths_are_liked_less(self):
         """What stands behind the AS counts in the length, and `match as-path` sees it."""
@@ -242,6 +308,11 @@ class OfOutside(unittest.TestCase):
             read_routes(routers, said[0].replace("65001", "9"), "report")
         with self.assertRaisesRegex(Refusal, "no router announces 10.3.0.0/16"):
             read_routes(routers, said[0].replace("10.2.0.0", "10.3.0.0"), "report")
+
+
+def record(kind, subtype, body):
+    """A record of MRT."""
+    return struct.pack(">IHHI", 60, kind, subtype, len(body)) + body
 
 
 def records(octets):

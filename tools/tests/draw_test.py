@@ -180,12 +180,14 @@ class Draw(unittest.TestCase):
 
     def test_numbers_and_names_in_circles(self):
         text = ("asn 4\nrouter 64500 10.0.0.1\nrouter 4200000123 10.0.0.2\nrouter 7 10.0.0.3\nlink 64500 4200000123\n"
-                "link 64500 7\norigin 64500 10.1.0.0/16\n# 7 called west-1\n")
+                "link 64500 7\norigin 64500 10.1.0.0/16\nrank 7 10.1.0.0/16 7-64500\n# 7 called west-1\n")
         status, out, _ = run("draw", "-", given=text.encode())
         self.assertEqual(status, 0)
         written = re.findall(r'class="(number|wide|wider)"[^>]*>([^<]*)<', out)
         self.assertEqual(sorted(written), [("wide", "64500"), ("wider", "00123"), ("wider", "42000"), ("wider", "t-1"),
                                            ("wider", "wes")])
+        self.assertIn(">west-1-64500</text>", out)
+        self.assertIn("<title>router 7 west-1\n", out.replace("</title>", "\n"))
         for kind, letters in (("number", 4), ("wide", 5), ("wider", 6)):
             size = int(re.search(rf"\.{kind} {{[^}}]*font-size: (\d+)px", drawing.STYLE)[1])
             self.assertLess(letters * size * 0.66, 2 * layout.RADIUS - 1)

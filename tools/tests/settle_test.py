@@ -200,6 +200,24 @@ class Printed(unittest.TestCase):
     def test_disagree(self):
         self.assertEqual(run("settle", "examples/disagree.txt"), (5, self.DISAGREE, ""))
 
+    def test_names_of_routers(self):
+        """Rows, wheels, orders and timings name them; JSON has their numbers, and what is written keeps the comments."""
+        text = "# 1 called west\n# 2 called east-1\n# 3 called core\n" + (TOP / "examples/disagree.txt").read_text()
+        status, out, error = run("settle", "-", "--play", 2, "--timing", given=text.encode())
+        self.assertEqual((status, error), (5, ""))
+        lines = out.splitlines()
+        self.assertEqual(lines[:7], [
+            "prefix 10.1.0.0/16 of west", "  stable assignments: 2",
+            "    west east-1-core-west core-west   check: stable", "    west east-1-west core-east-1-west   check: stable",
+            "  dispute wheel of 2:", "    east-1 would rather have east-1-core-west than east-1-west, through core",
+            "    core would rather have core-east-1-west than core-west, through east-1"])
+        self.assertIn("  if east-1 hears west before core hears west, in 3 hearings: west east-1-west core-east-1-west", lines)
+        self.assertTrue(any("settled 10.1.0.0/16: west " in line for line in lines))
+        self.assertEqual(*(json.loads(run("settle", "-", "--json", given=given.encode())[1])["prefixes"]
+                           for given in (text, text.split("\n", 3)[3])))
+        written = run("settle", "-", "--write", "rising", given=text.encode())[1]
+        self.assertTrue(written.startswith("# 1 called west\n# 2 called east-1\n# 3 called core\nrouter 1 "))
+
     def test_both_ends_of_disagree_come(self):
         status, out, error = run("settle", "examples/disagree.txt", "--play", 20)
         self.assertEqual((status, error, out[:len(self.DISAGREE)]), (5, "", self.DISAGREE))

@@ -384,7 +384,9 @@ class Printed(unittest.TestCase):
         text = "# 1 called west\n# 2 called east-1\n" + (TOP / "examples/shortest.txt").read_text().split("\nassignment\n")[0] + "\n"
         status, out, error = run("whatif", "-", "--fail", "west-east-1", given=text.encode())
         self.assertEqual((status, error), (0, ""))
-        self.assertIn("    2 east-1: 2-1, now ", out)
+        self.assertIn("    2 east-1: east-1-west, now ", out)
+        self.assertIn("\nlink west-east-1 fails: ", out)
+        self.assertTrue(run("whatif", "-", "--fail", "1-2", "--write", given=text.encode())[1].startswith(text[:32]))
         self.assertEqual(run("whatif", "-", "--crash", "east-1", given=text.encode())[1],
                          run("whatif", "-", "--crash", "2", given=text.encode())[1])
 

@@ -13,7 +13,7 @@ from configs.bird.operations import OF_SETS, result_of, wrong_types
 from configs.bird.run import Failure, value_of
 from configs.bird.sets import PrefixSet, Set
 from configs.bird.stream import Stream
-from configs.bird.values import MOST, MOST_HALF, NAMED, Pair, Prefix6, Triple, compare, pair_of, type_of
+from configs.bird.values import MOST, MOST_HALF, NAMED, Prefix6, Triple, pair_of, type_of
 from configs.lists import mask_of
 from network import Prefix
 
@@ -137,8 +137,6 @@ class Literals(Stream):
         place, high = self.place, atom()
         if type_of(high) != type_of(low):
             self.refuse(f"a range from {type_of(low)} to {type_of(high)}", place)
-        if isinstance(low, Pair) and compare(low, high) > 0:
-            self.refuse("a range of pairs that goes down: BIRD does not take it", place)
         return [(low, high)]
 
     def atom(self, takes_names):
