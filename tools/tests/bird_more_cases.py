@@ -7,6 +7,12 @@ def holds(condition, top=""):
     return pair(f"{{ if {condition} then bgp_med = 1; accept; }}", top2=top)
 
 
+def external(files):
+    """Router 2 says no AS number of its neighbor 1."""
+    text = files["r2.conf"].replace("neighbor 10.255.1.1 as 64601", "neighbor 10.255.1.1 external")
+    return {**files, "r2.conf": text}
+
+
 HOLDS, NOT = {(2, ONE): ["2-1 med 1"]}, {(2, ONE): ["2-1"]}
 WIDE = f"{OWN} / route 172.20.0.0/16 blackhole; / route 172.20.1.0/24 blackhole; / route 172.16.0.0/12 blackhole;"
 W16, W24, W12 = "172.20.0.0/16", "172.20.1.0/24", "172.16.0.0/12"
@@ -217,6 +223,12 @@ CASES = [
      shape(((1, 2), (2, 3), (1, 3)), {}, {1: OWN}, {"b_opt1": "local role customer;", "b_out3": "all",
                                                     "c_opt2": "local role provider;"}),
      {(3, ONE): ["3-1"]}),
+    ("a provider without a number marks with 0",
+     external(shape(((1, 2), (2, 3)), {}, {1: OWN}, {"b_opt1": "local role customer;", "b_opt3": "local role provider;"})),
+     {(2, ONE): ["2-1 otc 0"], (3, ONE): ["3-2-1 otc 0"]}),
+    ("and a marked route of a peer without one is refused",
+     external(shape(((1, 2), (2, 3)), {}, {1: OWN}, {"a_opt2": "local role peer;", "b_opt1": "local role peer;"})),
+     {(2, ONE): []}),
     ("an unset mark goes on", shape(((1, 2), (2, 3)), {2: "filter i { unset(bgp_otc); accept; }"}, {1: OWN},
                                     {"b_opt1": "local role customer;", "b_opt3": "local role customer;",
                                      "b_in1": "filter i"}), {(3, ONE): ["3-2-1"]}),

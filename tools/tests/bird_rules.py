@@ -143,7 +143,8 @@ RULES = {
     "limits and such change nothing": [
         "limits and kept routes change nothing, as long as they are not reached", WARNED],
     "roles": ["a route of a provider goes to customers alone", "roles act at one end alone",
-              "a marked route of a customer is refused", "an unset mark goes on"],
+              "a marked route of a customer is refused", "an unset mark goes on",
+              "a provider without a number marks with 0", "and a marked route of a peer without one is refused"],
     "attributes of one's own": ["attributes of one's own go from import to export, and no further"],
     # beside FRR
     "FRR's own routes have MED 0": ["FRR's network has MED 0, BIRD's none"],

@@ -27,19 +27,24 @@ def other_role(neighbor):
     return OTHERS.get(neighbor.role)
 
 
-def denied_in(neighbor, far, route):
+def said_number(neighbor):
+    """The AS number by which a neighbor marks routes, as a line says it: of an external one BIRD takes 0."""
+    return 0 if neighbor.asn.name == "external" else neighbor.asn.name
+
+
+def denied_in(neighbor, route):
     """The denial of a marked route that comes from a customer, or from a peer with another's mark."""
     other = other_role(neighbor)
     if route.customer is not None and (other in ("customer", "rs_client")
-                                       or other == "peer" and route.customer != far.router.asn):
+                                       or other == "peer" and route.customer != said_number(neighbor)):
         return Denial(neighbor.protocol.said["role"].place, f"role {neighbor.role}: the route is marked (bgp_otc)")
     return None
 
 
-def marked_in(neighbor, far, route):
+def marked_in(neighbor, route):
     """Marks a route that comes from a provider, a peer or a route server."""
     if route.customer is None and other_role(neighbor) in ABOVE:
-        route.customer = far.router.asn
+        route.customer = said_number(neighbor)
 
 
 def denied_out(neighbor, route):

@@ -332,10 +332,10 @@ class Router(Speaker):
         elif "default bgp_local_pref" in neighbor.protocol.said:
             held.note("local-pref", f"{neighbor.protocol.said['default bgp_local_pref'].place} default bgp_local_pref")
         held.standing, held.near, held.proto = neighbor.of_channel("preference", STANDING), neighbor, neighbor.name
-        denial = denied_in(neighbor, far, held)
+        denial = denied_in(neighbor, held)
         if denial:
             return denial
-        marked_in(neighbor, far, held)
+        marked_in(neighbor, held)
         denial = self.filtered(neighbor.policy("import"), held, prefix, neighbor.channel.policies["import"].place,
                                "import none")
         held.come()
