@@ -224,7 +224,8 @@ class Refusals(Refuses):
                 ("{ if net ~ [1, 5; accept; }", "']'"),
                 ("{ bgp_med = 5 accept; }", "';'"), ("{ function x() { } }", "a statement"),
                 ("{ /* accept; }", "does not end"),
-                ("{ /* a /* */ accept; }", "within a comment"), ("{ \u00e4 accept; }", "begins no word"),
+                ("{ /* a /* */ accept; }", "within a comment"), ("{\r accept; }", "begins no word"),
+                ("{\f accept; }", "begins no word"), ("{ \u00e4 accept; }", "begins no word"),
                 ("{ bgp_med = 1; accept; } }", "no option that is known")):
             files = pair(text, top2="define N = 16; / function h(int a) { return a; }")
             self.refused(files, "filter f", why)

@@ -8,8 +8,8 @@ import socket
 
 from network import Prefix
 
-PROTOCOL = re.compile(r"(^[ \t]*protocol[ \t]+bgp\b[^{;#\n]*\{)", re.MULTILINE)
-DEVICE = re.compile(r"^[ \t]*protocol[ \t]+device\b", re.MULTILINE)
+PROTOCOL = re.compile(r"(\bprotocol[ \t]+bgp\b[^{;#\n]*\{)")
+DEVICE = re.compile(r"^[^#\n]*\bprotocol[ \t]+device\b", re.MULTILINE)
 INCLUDE = re.compile(r'^([ \t]*include[ \t]*")([^"/][^"\n]*")', re.MULTILINE)
 TIMERS = " connect delay time 1; connect retry time 1; error wait time 1, 2;"
 # A route as `show route all` begins it, and an attribute.

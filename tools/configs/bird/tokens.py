@@ -17,7 +17,7 @@ DEEPEST = 8
 
 INCLUDE = re.compile(r'[ \t]*include[ \t]*"([^"\n]*)"[ \t]*;')
 FORMS = re.compile(r"""
-    (?P<blank>[ \t\r\v\f]+|\#[^\n]*)
+    (?P<blank>[ \t]+|\#[^\n]*)
   | (?P<comment>/\*.*?\*/)
   | (?P<open>/\*)
   | (?P<line>\n)
