@@ -8,7 +8,8 @@ PROGRAM is the proved program (crates/bgpnet/out/bgpnet). Plays networks of 4 to
 the start of the first session to rest, and a gadget that never rests for more and more rounds. Prints a line for each:
 the events, the instructions by valgrind's callgrind, those of one event, and the greatest memory, of which less than
 this script takes, some 11 MB, is not seen. Then `safe` looks for dispute wheels in networks of which each router has a
-rule, and in some of which none has: the instructions, those of a prefix, and the memory. Instructions are the same from run to run, whatever else the machine does."""
+rule, none has, or one in so many: the instructions, those of a prefix, and the memory. Instructions are the same from
+run to run, whatever else the machine does."""
 import os, random, re, subprocess, sys, tempfile
 
 TOP = os.path.dirname(os.path.dirname(os.path.abspath(__file__)))
@@ -54,9 +55,9 @@ def network(routers, prefixes):
     return len(links), "\n".join(lines) + "\n"
 
 
-def ranked(routers, paths, prefixes, seed=7):
+def ranked(routers, paths, prefixes, every=1, seed=7):
     """A network of which each router but the origin has a rule of so many paths, which grow outwards from it at random;
-    none has one where there are to be no paths."""
+    none has one where there are to be no paths. Or one router in so many has a rule, of paths of at most 4 routers."""
     chosen = random.Random(seed)
     peers = {u: set() for u in range(1, routers + 1)}
     for u in range(2, routers + 1):
@@ -66,17 +67,17 @@ def ranked(routers, paths, prefixes, seed=7):
         u, v = chosen.sample(range(1, routers + 1), 2)
         if len(peers[u]) < 16 and len(peers[v]) < 16:
             peers[u].add(v), peers[v].add(u)
-    rows, pool = {u: {} for u in peers}, [(1,)]
+    rows, pool, longest = {u: {} for u in peers}, [(1,)], 16 if every == 1 else 4
     for _ in range(20 * routers * paths):
         rest = chosen.choice(pool[-20:]) if chosen.random() < 0.5 else chosen.choice(pool)
         u = chosen.choice(sorted(peers[rest[0]]))
-        if u != 1 and u not in rest and len(rest) < 16 and len(rows[u]) < paths and (u, *rest) not in rows[u]:
+        if u != 1 and u not in rest and len(rest) < longest and len(rows[u]) < paths and (u, *rest) not in rows[u]:
             rows[u][u, *rest] = None
             pool.append((u, *rest))
     lines = [f"router {u} 10.0.0.{u}" for u in peers] + [f"link {u} {v}" for u in peers for v in sorted(peers[u]) if u < v]
     lines += [f"origin 1 10.{k}.0.0/16" for k in range(prefixes)]
     lines += [" ".join([f"rank {u} 10.0.0.0/8", *("-".join(map(str, path)) for path in rows[u])])
-              for u in peers if paths and u != 1]
+              for u in peers if paths and u != 1 and u % every == 0]
     return "\n".join(lines) + "\n"
 
 
@@ -128,14 +129,17 @@ def main():
             events, _, count, memory = measured(program, text, folder)
             print(f"| 4 | 6 | 1 | {rounds}, no rest | {events:,} | {count / 1e6:.1f} |"
                   f" {count / events:,.0f} | {memory:.1f} |", flush=True)
-        print("\n| Routers | Paths a rule | Prefixes | Million instructions | For a prefix | MB |\n|---|---|---|---|---|---|")
-        for routers, paths, prefixes in [(n, 32, 16) for n in (8, 16, 32, 64)] + [(64, k, 16) for k in (4, 8, 16)] \
-                + [(64, 32, 64), (64, 0, 256)]:
+        print("\n| Routers | A rule in | Paths a rule | Prefixes | Million instructions | For a prefix | MB |")
+        print("|---|---|---|---|---|---|---|")
+        for routers, paths, prefixes, every in [(n, 32, 16, 1) for n in (8, 16, 32, 64)] \
+                + [(64, k, 16, 1) for k in (4, 8, 16)] + [(64, 32, 64, 1), (64, 0, 256, 1)] \
+                + [(n, 8, 16, 4) for n in (8, 16, 32, 64)]:
             name = os.path.join(folder, "text")
             with open(name, "w") as out:
-                out.write(ranked(routers, paths, prefixes))
+                out.write(ranked(routers, paths, prefixes, every))
             count, memory = cost(program, "safe", name, folder)
-            print(f"| {routers} | {paths} | {prefixes} | {count / 1e6:.1f} | {count / prefixes:,.0f} | {memory:.1f} |", flush=True)
+            print(f"| {routers} | {every} | {paths} | {prefixes} | {count / 1e6:.1f} | {count / prefixes:,.0f} |"
+                  f" {memory:.1f} |", flush=True)
 
 
 main()

@@ -24,7 +24,7 @@ TaskPrints (task.Trace shows_octets) = Traces
 TaskPrints (task.Cut s) = Cuts s
 TaskPrints (task.Why u) = Whys u
 TaskPrints (task.Stable limits) = Lists limits
-TaskPrints task.Safe = Judges
+TaskPrints (task.Safe paths) = Judges paths
 
 -- the text that a task of threads prints for the lines of a network
 abbrev pub LinesPrintBy : ThreadTask → List Text → Output → Type 0

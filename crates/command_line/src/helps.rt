@@ -88,7 +88,7 @@ rule and 16 routers a path; an input has at most 16777216 octets.
   G4  a run whose offers are not those that its workers wrote down: no input is known to lead to it
 
 Status 0: done. 1: a fault, a truncated end, or a refused input. 2: other words than these. 3: memory
-was refused ('memory'). 4: a read or a write failed. 5: a limit of 'stable' was met.";
+was refused ('memory'). 4: a read or a write failed. 5: a limit of 'stable' or 'safe' was met.";
 
 /// The help of `decode` below its options: an example, and the statuses.
 pub const DECODE_HELP: &str = "\
@@ -186,9 +186,9 @@ the routers come to no other. 'wheel K': it has one of K rims. 'rim': a router t
 likes the second better, which goes on by the first path of the next rim, the last by that of the first.
 A wheel does not say that the network never settles; 'bgpnet stable' lists in which routes it can.
 
-'prefix PREFIX unknown paths U': nothing is said of the prefix. Router U has no 'rank' line for it, and
-another router has one. 'refused LINE CODE' names the first line that can't be read; 'bgpnet --help' has
-the codes, and the lines of a network.
+'prefix PREFIX unknown paths U': nothing is said of the prefix. Another router has a 'rank' line for it,
+router U has none, and more than N paths (--paths). 'refused LINE CODE' names the first line that can't
+be read; 'bgpnet --help' has the codes, and the lines of a network.
 
 Status 0: done. 1: a refused input. 2: other words than these. 3: memory was refused ('memory').
 4: a read or a write failed. 5: done, and a prefix is unknown."

@@ -38,8 +38,8 @@ pub enum Task {
     Why(u32),
     /// List all stable assignments, as far as these limits of each dispute let it.
     Stable(SearchLimits),
-    /// Look for dispute wheels.
-    Safe,
+    /// Look for dispute wheels, with at most so many paths of a router without a rule.
+    Safe(usize),
 }
 
 /// A task of threads.
@@ -74,7 +74,7 @@ pub fn run_task<S: Source, T: Sink>(
         Task::Stable(limits) => {
             answer_input(alloc, &StableEngine { limits: &limits }, reader, writer)
         }
-        Task::Safe => answer_input(alloc, &SafeEngine, reader, writer),
+        Task::Safe(paths) => answer_input(alloc, &SafeEngine { paths }, reader, writer),
     }
 }
 

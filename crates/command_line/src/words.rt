@@ -47,14 +47,18 @@ const MOST_CHOICES: u32 = 1_000;
 // The most steps of the search of a dispute if `--steps` does not name them.
 const STEPS: u32 = 10_000_000;
 
+// The most paths of a router without a rule that `safe` lists if `--paths` does not name them.
+const MOST_PATHS: u32 = 1_000;
+
 // The arguments that are numbers, each with how it is shown.
-static NUMBERS: [(&str, &str); 8] = [
+static NUMBERS: [(&str, &str); 9] = [
     ("peer", "--peer <AS>"),
     ("asn", "--asn <4>"),
     ("number", "<S>"),
     ("router", "<U>"),
     ("most", "--most <N>"),
     ("steps", "--steps <N>"),
+    ("paths", "--paths <N>"),
     ("turns", "--turns <N>"),
     ("snapshots", "--snapshots <K>"),
 ];
@@ -131,6 +135,10 @@ fn search_limits(found: &ArgMatches) -> SearchLimits {
     }
 }
 
+fn most_paths(found: &ArgMatches) -> usize {
+    found.get_one::<u32>("paths").unwrap_or(MOST_PATHS) as usize
+}
+
 fn run_options(found: &ArgMatches) -> RunOptions {
     RunOptions {
         turns: found.get_one::<u32>("turns").unwrap_or(TURNS),
@@ -204,6 +212,13 @@ fn stable_command<'a>(alloc: Global) -> Result<Command<'a>, AllocError> {
         .arg(steps)
 }
 
+fn safe_command<'a>(alloc: Global) -> Result<Command<'a>, AllocError> {
+    let help = "The most paths of a router without a rule, 1 to 4294967295 [default: 1000]";
+    let paths = number_arg(alloc, "paths", "N", help).long("paths");
+    let about = "Says whether a network has dispute wheels";
+    word_command(alloc, "safe", about, SAFE_HELP).arg(paths)
+}
+
 // A word that runs a network in threads, with its options.
 fn threads_command<'a>(alloc: Global, word: Command<'a>) -> Result<Command<'a>, AllocError> {
     let turns = Arg::new(alloc, "turns")
@@ -223,8 +238,6 @@ fn threads_command<'a>(alloc: Global, word: Command<'a>) -> Result<Command<'a>, 
 fn command<'a>(alloc: Global) -> Result<Command<'a>, AllocError> {
     let about = "Says whether an assignment of paths is stable";
     let check = word_command(alloc, "check", about, CHECK_HELP);
-    let about = "Says whether a network has dispute wheels";
-    let safe = word_command(alloc, "safe", about, SAFE_HELP);
     let about = "Plays a schedule of a network's routers";
     let play = word_command(alloc, "play", about, PLAY_HELP);
     let about = "Runs a network in threads";
@@ -240,7 +253,7 @@ fn command<'a>(alloc: Global) -> Result<Command<'a>, AllocError> {
         .subcommand(decode_command(alloc)?)?
         .subcommand(check)?
         .subcommand(stable_command(alloc)?)?
-        .subcommand(safe)?
+        .subcommand(safe_command(alloc)?)?
         .subcommand(play)?
         .subcommand(trace_command(alloc)?)?
         .subcommand(cut_command(alloc)?)?
@@ -260,7 +273,7 @@ fn asked_by(alloc: Global, matches: &ArgMatches) -> Result<Asked, AllocError> {
     match word.as_bytes() {
         b"check" => Ok(Asked::Task(Task::Check)),
         b"stable" => Ok(Asked::Task(Task::Stable(search_limits(found)))),
-        b"safe" => Ok(Asked::Task(Task::Safe)),
+        b"safe" => Ok(Asked::Task(Task::Safe(most_paths(found)))),
         b"play" => Ok(Asked::Task(Task::Play)),
         b"trace" => Ok(Asked::Task(Task::Trace(found.get_flag("octets")))),
         b"cut" => asked_number(

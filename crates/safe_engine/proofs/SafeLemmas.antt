@@ -20,10 +20,10 @@ and_true true = refl
 and_true false = refl
 
 -- an answer more
-pub answered_more : (net : Plan) (os : List Origin) (i : ℕ) (o : Origin) (old mid new : List ℕ) (known is_known : Bool)
-    → i < length os → o ≡ get_or os i o → PutsAnswers net (take i os) old mid known → PutsFound net o.prefix mid new is_known
-    → PutsAnswers net (take (i + 1) os) old new (known && is_known)
-answered_more net os i o old mid new known is_known lt is puts found =
+pub answered_more : (net : Plan) (most : ℕ) (os : List Origin) (i : ℕ) (o : Origin) (old mid new : List ℕ) (known is_known : Bool)
+    → i < length os → o ≡ get_or os i o → PutsAnswers net most (take i os) old mid known → PutsFound net most o.prefix mid new is_known
+    → PutsAnswers net most (take (i + 1) os) old new (known && is_known)
+answered_more net most os i o old mid new known is_known lt is puts found =
     let h = puts.1 in
     let a : Answer = record { prefix = o.prefix; found = found.0 } in
     let made : List Answer = h.answers in
@@ -39,7 +39,7 @@ answered_more net os i o old mid new known is_known lt is puts found =
             ∙ ap (λ (qs : List PrefixView). qs ++ o.prefix ∷ []) h.prefixes
             ∙ sym (map-append (λ (x : Origin). x.prefix) (take i os) (o ∷ []))
             ∙ ap (map (λ (x : Origin). x.prefix)) (sym origins);
-        each = All-append (λ x. IsFound net x.prefix x.found) made (a ∷ []) h.each (one (λ x. IsFound net x.prefix x.found) a found.1);
+        each = All-append (λ x. IsFound net most x.prefix x.found) made (a ∷ []) h.each (one (λ x. IsFound net most x.prefix x.found) a found.1);
         printed = refl;
         all_known =
             ap (λ (b : Bool). b && is_known) h.all_known

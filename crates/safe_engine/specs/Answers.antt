@@ -24,11 +24,11 @@ use Rattle.safe_engine.specs.Listing.{safety_text}
 abbrev pub Found : Type 0
 Found = Result Safety WheelError
 
--- the answer for a prefix: that there is no dispute wheel, or one; or a refusal that means what it says. Want of memory is
--- no answer
-abbrev pub IsFound : Plan → PrefixView → Found → Type 0
-IsFound net q (Ok safety) = IsAnswerOf (at_prefix net q) safety
-IsFound net q (Err why) = (why ≢ search.Memory) × IsRefusal (at_prefix net q) why
+-- the answer for a prefix: that there is no dispute wheel, or one; or a refusal that means what it says, where at most so
+-- many paths are listed of a router without a rule. Want of memory is no answer
+abbrev pub IsFound : Plan → ℕ → PrefixView → Found → Type 0
+IsFound net most q (Ok safety) = IsAnswerOf (at_prefix net q) safety
+IsFound net most q (Err why) = (why ≢ search.Memory) × IsRefusal (at_prefix net q) most why
 
 abbrev pub refusal_text : PrefixView → WheelError → List ℕ
 refusal_text q (search.UnlistedPaths u) = unknown_line q (codes "paths") (u ∷ [])
@@ -51,36 +51,36 @@ abbrev pub are_known : List Answer → Bool
 are_known answers = list_all (λ a. is_ok a.found) answers
 
 -- an answer for the prefix of each origin, with its text; and whether each is known
-pub record AreAnswered (net : Plan) (origins : List Origin) (text : List ℕ) (known : Bool) : Type 0 where
+pub record AreAnswered (net : Plan) (most : ℕ) (origins : List Origin) (text : List ℕ) (known : Bool) : Type 0 where
   pub answers : List Answer
   pub prefixes : map (λ a. a.prefix) answers ≡ map (λ o. o.prefix) origins
-  pub each : All (λ a. IsFound net a.prefix a.found) answers
+  pub each : All (λ a. IsFound net most a.prefix a.found) answers
   pub printed : text ≡ answers_text answers
   pub all_known : known ≡ are_known answers
 
 -- the new text is the old one, with the answer for a prefix at its end
-abbrev pub PutsFound : Plan → PrefixView → List ℕ → List ℕ → Bool → Type 0
-PutsFound net q old new known = (found : Found) × IsFound net q found × (new ≡ old ++ found_text q found) × (known ≡ is_ok found)
+abbrev pub PutsFound : Plan → ℕ → PrefixView → List ℕ → List ℕ → Bool → Type 0
+PutsFound net most q old new known = (found : Found) × IsFound net most q found × (new ≡ old ++ found_text q found) × (known ≡ is_ok found)
 
 -- the new text is the old one, with the answers for the prefixes of these origins at its end
-abbrev pub PutsAnswers : Plan → List Origin → List ℕ → List ℕ → Bool → Type 0
-PutsAnswers net origins old new known = (text : List ℕ) × AreAnswered net origins text known × (new ≡ old ++ text)
+abbrev pub PutsAnswers : Plan → ℕ → List Origin → List ℕ → List ℕ → Bool → Type 0
+PutsAnswers net most origins old new known = (text : List ℕ) × AreAnswered net most origins text known × (new ≡ old ++ text)
 
 -- an answer for each origin's prefix, by address, then by length, and the status that says whether all are known
-abbrev pub SafetyGives : Plan → Output → Type 0
-SafetyGives net out = (text : List ℕ) × (known : Bool) × AreAnswered net net.origins text known × (out ≡ output text (status_of known))
+abbrev pub SafetyGives : Plan → ℕ → Output → Type 0
+SafetyGives net most out = (text : List ℕ) × (known : Bool) × AreAnswered net most net.origins text known × (out ≡ output text (status_of known))
 
 -- ---- the text printed for an input
 
-abbrev pub LinesJudge : List Text → Output → Type 0
-LinesJudge lines out =
+abbrev pub LinesJudge : ℕ → List Text → Output → Type 0
+LinesJudge most lines out =
     ((at : ℕ) × (code : Code) × (code ≢ kinds.Memory) × RefusesNetwork lines at code × (out ≡ refused at (code_text code)))
-    ⊎ ((net : Plan) × SpellsNetwork lines net × SafetyGives net out)
+    ⊎ ((net : Plan) × SpellsNetwork lines net × SafetyGives net most out)
 
 -- the text for an input, which may be too long
-abbrev pub InputJudges : List ℕ → Output → Type 0
-InputJudges input out = WithinLimit (λ text. LinesJudge (network_lines text)) input out
+abbrev pub InputJudges : ℕ → List ℕ → Output → Type 0
+InputJudges most input out = WithinLimit (λ text. LinesJudge most (network_lines text)) input out
 
 -- the text that the program prints: this one, or that memory ran out
-abbrev pub Judges : List ℕ → Output → Type 0
-Judges input out = OrMemory InputJudges input out
+abbrev pub Judges : ℕ → List ℕ → Output → Type 0
+Judges most input out = OrMemory (InputJudges most) input out

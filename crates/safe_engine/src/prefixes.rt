@@ -31,13 +31,14 @@ fn put_prefix(
     alloc: Global,
     network: &Network,
     prefix: &Prefix,
+    most: usize,
     out: &mut Vec<u8>,
 ) -> Result<bool, AllocError>
     requires { IsNamed network.now.origins prefix.now }
-    ensures { IfOk result (λ known. PutsFound network.now prefix.now out.old.items out.new.items known) }
+    ensures { IfOk result (λ known. PutsFound network.now most prefix.now out.old.items out.new.items known) }
 {
     let instance = Instance::new(network, prefix);
-    match dispute_wheel(alloc, &instance) {
+    match dispute_wheel(alloc, &instance, most) {
         Ok(safety) => {
             put_safety(prefix, &safety, out)?;
             Ok(true)
@@ -50,13 +51,18 @@ fn put_prefix(
 }
 
 // Appends the answer for the prefix of each origin, and answers whether all is known.
-fn put_prefixes(alloc: Global, network: &Network, out: &mut Vec<u8>) -> Result<bool, AllocError>
+fn put_prefixes(
+    alloc: Global,
+    network: &Network,
+    most: usize,
+    out: &mut Vec<u8>,
+) -> Result<bool, AllocError>
     ensures { IfOk result
-        (λ known. PutsAnswers network.now network.now.origins out.old.items out.new.items known) }
+        (λ known. PutsAnswers network.now most network.now.origins out.old.items out.new.items known) }
 {
     let mut known = true;
     for origin in network.origins() {
-        let is_known = put_prefix(alloc, network, &origin.prefix, out)?;
+        let is_known = put_prefix(alloc, network, &origin.prefix, most, out)?;
         known = known & is_known;
     }
     Ok(known)
@@ -65,10 +71,14 @@ fn put_prefixes(alloc: Global, network: &Network, out: &mut Vec<u8>) -> Result<b
 /// The text printed of the dispute wheels of a network, and the exit status.
 ///
 /// It answers an error if memory is refused.
-pub(crate) fn safety_output(alloc: Global, network: &Network) -> Result<(Vec<u8>, u8), AllocError>
-    ensures { IfOk result (λ printed. SafetyGives network.now (output printed.0.items printed.1)) }
+pub(crate) fn safety_output(
+    alloc: Global,
+    network: &Network,
+    most: usize,
+) -> Result<(Vec<u8>, u8), AllocError>
+    ensures { IfOk result (λ printed. SafetyGives network.now most (output printed.0.items printed.1)) }
 {
     let mut out = Vec::new(alloc);
-    let known = put_prefixes(alloc, network, &mut out)?;
+    let known = put_prefixes(alloc, network, most, &mut out)?;
     Ok((out, if known { DONE } else { UNKNOWN }))
 }

@@ -13,11 +13,11 @@ use std::alloc::{AllocError, Global};
 use text_engines::{Engine, text_output};
 
 // What is printed for the lines of a network, and the status.
-fn lines_output(alloc: Global, text: &[u8]) -> Result<(Vec<u8>, u8), AllocError>
-    ensures { IfOk result (λ printed. LinesJudge (lines_of text.now) (output printed.0.items printed.1)) }
+fn lines_output(alloc: Global, paths: usize, text: &[u8]) -> Result<(Vec<u8>, u8), AllocError>
+    ensures { IfOk result (λ printed. LinesJudge paths (lines_of text.now) (output printed.0.items printed.1)) }
 {
     match read_network(alloc, text) {
-        Ok(network) => safety_output(alloc, &network),
+        Ok(network) => safety_output(alloc, &network, paths),
         Err(refused) => text_output(alloc, &refused),
     }
 }
@@ -26,12 +26,15 @@ fn lines_output(alloc: Global, text: &[u8]) -> Result<(Vec<u8>, u8), AllocError>
 /// that is refused. What stands behind a line `assignment` or `schedule` is left out. Its status is
 /// [`UNKNOWN`](stable_engine::status::UNKNOWN) where it is not known of a prefix.
 #[derive(Drop)]
-pub struct SafeEngine;
+pub struct SafeEngine {
+    /// The most paths that are listed of a router without a rule.
+    pub paths: usize,
+}
 
 impl Engine for SafeEngine {
-    ghost gives = { λ engine text out. LinesJudge (network_lines text) out };
+    ghost gives = { λ engine text out. LinesJudge engine.paths (network_lines text) out };
 
     fn answer(&self, alloc: Global, text: &[u8]) -> Result<(Vec<u8>, u8), AllocError> {
-        lines_output(alloc, network_part(text))
+        lines_output(alloc, self.paths, network_part(text))
     }
 }

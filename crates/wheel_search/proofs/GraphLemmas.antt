@@ -1,25 +1,27 @@
 -- The feasible paths of a network as places of rows.
-use Rattle.std.proofs.Common.{◌≡◌, ◌≢◌, ℕ, zero, suc, ◌<◌, ◌≤◌, ◌+◌, ◌^◌, Bool, true, false, List, [], ◌∷◌, ◌++◌, length, get_or, map, refl, sym, ap, subst, ◌∙◌, arith, inl, inr}
-use Rattle.std.specs.Prelude.{slice_index, slice_index_or}
-use Rattle.std.specs.List.{All, Contains, HoldsAt}
-use Rattle.std.proofs.lemmas.Bool.{cases_lt, cases_eq}
+use Rattle.std.proofs.Common.{◌≡◌, ◌≢◌, ℕ, zero, suc, ◌<◌, ◌≤◌, ◌+◌, ◌^◌, List, [], ◌∷◌, length, get_or, map, refl, sym, ap, subst, ◌∙◌, arith, inl, inr}
+use Rattle.std.specs.List.{Contains, HoldsAt}
+use Rattle.std.proofs.lemmas.Bool.{cases_lt}
 use Rattle.std.proofs.lemmas.List.{length-map, get_or-map, get_or_default, get_or_past}
 use mathlib.Core.Logic.{◌⊎◌}
 use Rattle.ranked_policy.specs.declared.limits.TheConstants.{LONGEST_PATH}
 use Rattle.ranked_policy.specs.Paths.{BeginsWith, EndsWith}
 use Rattle.ranked_policy.specs.declared.network.NetRouter.{NetRouter}
 use Rattle.ranked_policy.specs.Plans.{IsRouter, Linked, IsOrigin, numbers}
-use Rattle.ranked_policy.specs.Policies.{Table, IsTableOf, Originates, IsPermitted, IsPreferred}
-use Rattle.ranked_policy.specs.Promises.{EachPolicyIsAnOrder}
+use Rattle.ranked_policy.specs.Policies.{Table, IsTableOf, IsPermitted, IsPreferred}
+use Rattle.ranked_policy.specs.Promises.{EachPolicyIsAnOrder, OneRule}
+use Rattle.ranked_policy.specs.Tests.{PrefersIsATest}
 use Rattle.stable_paths.specs.Stable.{Problem, IsProblem}
 use Rattle.dispute_wheels.specs.Wheels.{HangsOn, HangRound, HasCycle}
-use Rattle.dispute_wheels.specs.Feasible.{PermitsAt, IsFeasible, Likes, game_of}
-use Rattle.dispute_wheels.proofs.FeasibleLemmas.{permitted_at, permitted_by, known, heads, tails, alone_originates, apart}
+use Rattle.dispute_wheels.specs.Feasible.{IsFeasible, Likes, game_of}
+use Rattle.dispute_wheels.proofs.FeasibleLemmas.{permitted_at, known, heads, tails, alone_originates, apart}
 use Rattle.wheel_search.specs.declared.row.Row.{Row}
 use Rattle.wheel_search.specs.declared.wait.Wait.{Wait}
 use Rattle.wheel_search.specs.declared.wait.Wait.TheVariants.{Never, Nothing, Rest}
-use Rattle.wheel_search.specs.Waits.{wait_of, count_of, ComesIn, Comes, IsPlace, AreWithin, IsFree, AllFree}
-use Rattle.wheel_search.specs.Rows.{IsRow, AreRows, IsWait, IsEachWait, AreWaits, GoesOn, paths_of, paths_at, path_at, router_at}
+use Rattle.wheel_search.specs.Waits.{wait_of, count_of, ComesIn, Comes, AreWithin, IsFree, AllFree}
+use Rattle.wheel_search.specs.Found.{HasNoRule}
+use Rattle.wheel_search.specs.Rows.{IsRow, IsWhole, IsWithin, AreRows, RestStands, IsWait, AreWaits, GoesOn, paths_of, paths_at, path_at, router_at}
+use Rattle.wheel_search.proofs.RowLemmas.{free_or_not, free_none, not_free, free_no_longer}
 use Rattle.wheel_search.proofs.WaitLemmas.{comes_by, never_in, comes_on, nothing_comes, free_more}
 
 module _ (law : EachPolicyIsAnOrder) (p : Problem) (is : IsProblem p) (rows : List Row) (are : AreRows p rows) where
@@ -49,12 +51,30 @@ module _ (law : EachPolicyIsAnOrder) (p : Problem) (is : IsProblem p) (rows : Li
   table_is : (r : ℕ) (l : r < length rows) → IsTableOf p.net (router_at rows r) (row_here r l).seat.table
   table_is r l = subst (λ (u : ℕ). IsTableOf p.net u (row_here r l).seat.table) (sym (router_here r (some_row r l) l)) (row_here r l).seat.of
 
-  pub has_at : (r : ℕ) → r < length rows → (rest : List ℕ) → IsFeasible p.net p.prefix (router_at rows r ∷ rest) → Contains (paths_at rows r) (router_at rows r ∷ rest)
-  has_at r l rest f =
+  whole_here : (r : ℕ) (l : r < length rows) → IsWhole p are.longest (get_or rows r (some_row r l))
+  whole_here r l = are.whole r (some_row r l) l
+
+  pub has_at : (r : ℕ) → r < length rows → (rest : List ℕ) → IsFeasible p.net p.prefix (router_at rows r ∷ rest) → IsWithin p are.longest (router_at rows r) (router_at rows r ∷ rest)
+      → Contains (paths_at rows r) (router_at rows r ∷ rest)
+  has_at r l rest f within =
       let u = router_here r (some_row r l) l in
       subst (λ (x : ℕ). Contains (paths_at rows r) (x ∷ rest)) (sym u)
       (subst (λ (xs : List (List ℕ)). Contains xs ((get_or rows r (some_row r l)).seat.router ∷ rest)) (sym (paths_here r (some_row r l) l))
-      ((row_here r l).has rest (subst (λ (x : ℕ). IsFeasible p.net p.prefix (x ∷ rest)) u f)))
+      ((whole_here r l).has rest (subst (λ (x : ℕ). IsFeasible p.net p.prefix (x ∷ rest)) u f) (subst (λ (x : ℕ). IsWithin p are.longest x (x ∷ rest)) u within)))
+
+  short_at : (r : ℕ) → r < length rows → (path : List ℕ) → Contains (paths_at rows r) path → IsWithin p are.longest (router_at rows r) path
+  short_at r l path c = subst (λ (x : ℕ). IsWithin p are.longest x path) (sym (router_here r (some_row r l) l))
+      ((whole_here r l).short path (subst (λ (xs : List (List ℕ)). Contains xs path) (paths_here r (some_row r l) l) c))
+
+  -- the rest of a path of a row stands in its row
+  pub rest_stands : (row : Row) → IsWhole p are.longest row → IsRow p row → (path : List ℕ) → Contains (paths_of row) path → RestStands p rows path
+  rest_stands row whole is_row path c u v rest e f next l at =
+      let b = is_row.begins c.0 path c.1 in
+      let first : BeginsWith path row.seat.router = subst (λ (x : List ℕ). BeginsWith x row.seat.router) c.2 b in
+      let same : u ≡ row.seat.router = heads u row.seat.router (v ∷ rest) first.0 (sym e ∙ first.1) in
+      let here : Contains (paths_of row) (row.seat.router ∷ v ∷ rest) = subst (Contains (paths_of row)) (e ∙ ap (λ (x : ℕ). x ∷ v ∷ rest) same) c in
+      subst (λ (x : ℕ). Contains (paths_at rows next) (x ∷ rest)) at
+      (has_at next l rest (subst (λ (x : ℕ). IsFeasible p.net p.prefix (x ∷ rest)) (sym at) f) (subst (λ (x : ℕ). IsWithin p are.longest x (x ∷ rest)) (sym at) (whole.onward v rest here)))
 
   permitted_here : (r : ℕ) (l : r < length rows) (path : List ℕ) (v : ℕ) → Contains (paths_at rows r) path → IsOrigin p.net.origins v p.prefix → EndsWith path v
       → IsPermitted (row_here r l).seat.table p.prefix path
@@ -89,13 +109,27 @@ module _ (law : EachPolicyIsAnOrder) (p : Problem) (is : IsProblem p) (rows : Li
       let l : c.0 < length rows = omega (arith, c.1, length-map rows (λ (x : Row). x.seat.router)) in
       (c.0, l, get_or_default (map (λ (x : Row). x.seat.router) rows) c.0 0 u c.1 ∙ c.2)
 
-  -- where a feasible path stands
-  pub stands : (u : ℕ) (rest : List ℕ) → IsFeasible p.net p.prefix (u ∷ rest)
-      → (r : ℕ) × (i : ℕ) × (r < length rows) × (i < length (paths_at rows r)) × (path_at rows r i ≡ u ∷ rest)
-  stands u rest f =
+  -- where a path stands
+  abbrev Stands : List ℕ → Type 0
+  Stands path = (r : ℕ) × (i : ℕ) × (r < length rows) × (i < length (paths_at rows r)) × (path_at rows r i ≡ path)
+
+  -- where a feasible path of a router with a rule stands
+  stands : (u : ℕ) (rest : List ℕ) → IsFeasible p.net p.prefix (u ∷ rest) → (HasNoRule p u → ⊥) → Stands (u ∷ rest)
+  stands u rest f ranked =
       let at = row_of u (known law p is u rest f) in
-      let c = has_at at.0 at.1 rest (subst (λ (x : ℕ). IsFeasible p.net p.prefix (x ∷ rest)) (sym at.2) f) in
+      let c = has_at at.0 at.1 rest (subst (λ (x : ℕ). IsFeasible p.net p.prefix (x ∷ rest)) (sym at.2) f) (λ none. absurd (ranked (subst (HasNoRule p) at.2 none))) in
       (at.0, c.0, at.1, c.1, get_or_default (paths_at rows at.0) c.0 [] (router_at rows at.0 ∷ rest) c.1 ∙ c.2 ∙ ap (λ (x : ℕ). x ∷ rest) at.2)
+
+  -- a router has a rule, or none
+  rule_or_not : PrefersIsATest → OneRule → (u : ℕ) → IsRouter p.net.routers u → HasNoRule p u ⊎ (HasNoRule p u → ⊥)
+  rule_or_not tests one u k =
+      let at = row_of u k in
+      let row = get_or rows at.0 (some_row at.0 at.1) in
+      let e : row.seat.router ≡ u = sym (router_here at.0 (some_row at.0 at.1) at.1) ∙ at.2 in
+      elim (free_or_not row.seat.kind) [
+        | inl free ↦ inl (subst (HasNoRule p) e (free_none tests one p is row.seat (row_here at.0 at.1).seat free))
+        | inr other ↦ inr (λ none. not_free tests one p is row.seat (row_here at.0 at.1).seat other (subst (HasNoRule p) (sym e) none))
+      ]
 
   -- a feasible path ends at an origin
   ends : (path : List ℕ) → IsFeasible p.net p.prefix path → (v : ℕ) × IsOrigin p.net.origins v p.prefix × EndsWith path v
@@ -139,11 +173,10 @@ module _ (law : EachPolicyIsAnOrder) (p : Problem) (is : IsProblem p) (rows : Li
   not_known u peer rest path e not f = let g : IsFeasible p.net p.prefix (u ∷ peer ∷ rest) = subst (IsFeasible p.net p.prefix) e f in not (known law p is peer rest g.2)
 
   pub not_listed : (u peer next : ℕ) (rest path : List ℕ) → path ≡ u ∷ peer ∷ rest → next < length rows → router_at rows next ≡ peer → (paths : List (List ℕ)) → paths ≡ paths_at rows next
-      → ((more : List ℕ) → Contains paths more → path ≡ u ∷ more → ⊥) → IsFeasible p.net p.prefix path → ⊥
-  not_listed u peer next rest path e l at paths same not f =
+      → RestStands p rows path → ((more : List ℕ) → Contains paths more → path ≡ u ∷ more → ⊥) → IsFeasible p.net p.prefix path → ⊥
+  not_listed u peer next rest path e l at paths same stand not f =
       let g : IsFeasible p.net p.prefix (u ∷ peer ∷ rest) = subst (IsFeasible p.net p.prefix) e f in
-      let h : IsFeasible p.net p.prefix (router_at rows next ∷ rest) = subst (λ (x : ℕ). IsFeasible p.net p.prefix (x ∷ rest)) (sym at) g.2 in
-      not (router_at rows next ∷ rest) (subst (λ (xs : List (List ℕ)). Contains xs (router_at rows next ∷ rest)) (sym same) (has_at next l rest h)) (e ∙ ap (λ (x : ℕ). u ∷ x ∷ rest) (sym at))
+      not (peer ∷ rest) (subst (λ (xs : List (List ℕ)). Contains xs (peer ∷ rest)) (sym same) (stand u peer rest e g.2 next l at)) e
 
   pub not_linked : (u peer : ℕ) (rest path : List ℕ) → path ≡ u ∷ peer ∷ rest → (Linked p.net.links u peer → ⊥) → IsFeasible p.net p.prefix path → ⊥
   not_linked u peer rest path e not f = let g : IsFeasible p.net p.prefix (u ∷ peer ∷ rest) = subst (IsFeasible p.net p.prefix) e f in not g.1
@@ -233,6 +266,13 @@ module _ (law : EachPolicyIsAnOrder) (p : Problem) (is : IsProblem p) (rows : Li
         by t (inl own) = omega (arith, ap length own.1)
         by t (inr x) = x.1.short
 
+    -- the path of a router without a rule by which another hangs on something is not longer
+    as_short : (path rest : List ℕ) → (h : HangsOn (game_of p) path rest) → HasNoRule p h.router → length (h.router ∷ rest) ≤ length path
+    as_short path rest h none = elim h.as_good [
+      | inl same ↦ omega (arith, ap length same)
+      | inr better ↦ free_no_longer p is (h.router ∷ rest) path better (subst (HasNoRule p) (heads h.router better.router rest better.first.0 better.first.1) none)
+    ]
+
     -- what a path hangs on stands where a path of its row, not behind it, goes on
     pub hang : (r i : ℕ) → r < length rows → i < length (paths_at rows r) → (rest : List ℕ) → HangsOn (game_of p) (path_at rows r i) rest
         → (j : ℕ) × (v : ℕ) × (k : ℕ) × (j ≤ i) × Comes waits r j × (wait_of waits r j ≡ Rest v k) × (path_at rows v k ≡ rest)
@@ -243,7 +283,9 @@ module _ (law : EachPolicyIsAnOrder) (p : Problem) (is : IsProblem p) (rows : Li
           | inr better ↦ heads h.router (router_at rows r) rest (better.first.0) (better.first.1 ∙ ap (λ (x : ℕ). x ∷ better.first.0) (sym (heads (router_at rows r) better.router b.0 better.second.0 (sym b.1 ∙ better.second.1))))
         ] in
         let f : IsFeasible p.net p.prefix (router_at rows r ∷ rest) = subst (λ (x : ℕ). IsFeasible p.net p.prefix (x ∷ rest)) mine h.feasible in
-        let c = has_at r l rest f in
+        let low : IsWithin p are.longest (router_at rows r) (router_at rows r ∷ rest) =
+        λ none. omega (arith, short_at r l (path_at rows r i) (i, m, get_or_default (paths_at rows r) i (path_at rows r i) [] m) none, as_short (path_at rows r i) rest h (subst (HasNoRule p) (sym mine) none)) in
+        let c = has_at r l rest f low in
         let whole : path_at rows r c.0 ≡ router_at rows r ∷ rest = get_or_default (paths_at rows r) c.0 [] (router_at rows r ∷ rest) c.1 ∙ c.2 in
         let least = nearest r i l m rest h mine c.0 c.1 whole in
         let comes = feasible_comes (router_at rows r ∷ rest) LONGEST_PATH r least.0 (short (router_at rows r ∷ rest) f) l least.1 least.3 f in
@@ -296,15 +338,42 @@ module _ (law : EachPolicyIsAnOrder) (p : Problem) (is : IsProblem p) (rows : Li
         let x = down n paths r i l m free path path e h in
         no_round n path paths h x.0 x.1 x.2 x.3 x.4 x.5
 
-    begun : (path : List ℕ) (paths : List (List ℕ)) (last : List ℕ) → HangRound (game_of p) path paths last → IsFeasible p.net p.prefix path
-    begun path [] last h = h.mine
-    begun path (next ∷ paths) last h = h.0.mine
+    -- what a path that stands hangs on stands
+    step : (path rest : List ℕ) → Stands path → HangsOn (game_of p) path rest → Stands rest
+    step path rest s h =
+        let x = hang s.0 s.1 s.2 s.3 rest (subst (λ (y : List ℕ). HangsOn (game_of p) y rest) (sym s.4) h) in
+        let g = goes s.0 x.0 x.1 x.2 x.5 in
+        (x.1, x.2, g.known, g.below, x.6)
 
-    pub no_cycle : AllFree waits → HasCycle (game_of p) → ⊥
-    no_cycle all c = at c.0 (begun c.0 c.1 c.0 c.2) c.2
-      where
-        at : (path : List ℕ) → IsFeasible p.net p.prefix path → HangRound (game_of p) path c.1 path → ⊥
-        at [] f h = f
-        at (u ∷ rest) f h =
-            let s = stands u rest f in
-            no_round all.0 (u ∷ rest) c.1 h s.0 s.1 s.2 s.3 s.4 (all.1 s.0 s.1 (omega (arith, s.2, aw.size)) (omega (arith, s.3, counts s.0 s.2)))
+    begins_by : (path rest : List ℕ) → (h : HangsOn (game_of p) path rest) → BeginsWith path h.router
+    begins_by path rest h = elim h.as_good [
+      | inl same ↦ (rest, same)
+      | inr better ↦ (better.second.0, better.second.1 ∙ ap (λ (x : ℕ). x ∷ better.second.0) (sym (heads h.router better.router rest better.first.0 better.first.1)))
+    ]
+
+    -- what any path hangs on stands, or is shorter
+    step_or_fall : PrefersIsATest → OneRule → (path rest : List ℕ) → HangsOn (game_of p) path rest → Stands rest ⊎ (length rest < length path)
+    step_or_fall tests one path rest h = elim (rule_or_not tests one h.router (known law p is h.router rest h.feasible)) [
+      | inl none ↦ inr (omega (arith, as_short path rest h none))
+      | inr rule ↦
+          let b = begins_by path rest h in
+          let s = stands h.router b.0 (subst (IsFeasible p.net p.prefix) b.1 h.mine) rule in
+          inl (step path rest (subst Stands (sym b.1) s) h)
+    ]
+
+    round_on : (paths : List (List ℕ)) (path last : List ℕ) → HangRound (game_of p) path paths last → Stands path → Stands last
+    round_on [] path last h s = step path last s h
+    round_on (next ∷ paths) path last h s = round_on paths next last h.1 (step path next s h.0)
+
+    round_or_fall : PrefersIsATest → OneRule → (paths : List (List ℕ)) (path last : List ℕ) → HangRound (game_of p) path paths last → Stands last ⊎ (length last < length path)
+    round_or_fall tests one [] path last h = step_or_fall tests one path last h
+    round_or_fall tests one (next ∷ paths) path last h = elim (step_or_fall tests one path next h.0) [
+      | inl s ↦ inl (round_on paths next last h.1 s)
+      | inr less ↦ elim (round_or_fall tests one paths next last h.1) [ inl s ↦ inl s | inr more ↦ inr (omega (arith, less, more)) ]
+    ]
+
+    pub no_cycle : PrefersIsATest → OneRule → AllFree waits → HasCycle (game_of p) → ⊥
+    no_cycle tests one all c = elim (round_or_fall tests one c.1 c.0 c.0 c.2) [
+      | inl s ↦ no_round all.0 c.0 c.1 c.2 s.0 s.1 s.2 s.3 s.4 (all.1 s.0 s.1 (omega (arith, s.2, aw.size)) (omega (arith, s.3, counts s.0 s.2)))
+      | inr less ↦ omega (arith, less)
+    ]

@@ -1,8 +1,8 @@
 -- Paths that are let go, one by one.
-use Rattle.std.proofs.Common.{◌≡◌, ◌≢◌, ℕ, zero, suc, ◌<◌, ◌≤◌, ◌+◌, Bool, true, false, List, [], ◌∷◌, ◌++◌, length, get_or, set, take, refl, sym, ap, subst, ◌∙◌, arith, inl, inr, append_assoc, length-append, Option, Some, None}
+use Rattle.std.proofs.Common.{◌≡◌, ◌≢◌, ℕ, zero, suc, ◌<◌, ◌≤◌, ◌+◌, Bool, true, false, List, [], ◌∷◌, ◌++◌, length, get_or, set, refl, sym, ap, subst, ◌∙◌, arith, inl, inr, append_assoc, length-append, Option, Some, None}
 use Rattle.std.specs.Prelude.{slice_index, slice_index_or, cond, IsSome}
 use Rattle.std.specs.Option.{option_to_list}
-use Rattle.std.specs.List.{Contains, sum_by}
+use Rattle.std.specs.List.{sum_by}
 use Rattle.std.proofs.lemmas.List.{length-set, get_or-set_other, get_or_default}
 use Rattle.std.proofs.lemmas.Grind.{get_or-set_at}
 use Rattle.std.proofs.lemmas.List.Sums.{sum_by-set}
@@ -12,7 +12,7 @@ use Rattle.wheel_search.specs.declared.wait.Wait.{Wait}
 use Rattle.wheel_search.specs.declared.wait.Wait.TheVariants.{Rest}
 use Rattle.wheel_search.specs.declared.letting.Letting.{Letting}
 use Rattle.wheel_search.specs.Waits.{wait_of, count_of, Comes, AreWithin, IsFree}
-use Rattle.wheel_search.specs.Letting.{AreGone, Holds, HoldRound, IsBusy, BusyStay, IsOn, HasGone, IsHeld, MayGo}
+use Rattle.wheel_search.specs.Letting.{AreGone, Holds, IsBusy, IsOn, HasGone, IsHeld, MayGo}
 use Rattle.wheel_search.proofs.WaitLemmas.{free_rest, free_more, same_row, same_place}
 
 -- one more path of a row goes

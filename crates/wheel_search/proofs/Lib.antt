@@ -1,6 +1,7 @@
 pub mod WaitLemmas
 pub mod LettingLemmas
 pub mod RuleLemmas
+pub mod ListLemmas
 pub mod RowLemmas
 pub mod GraphLemmas
 pub mod RimLemmas

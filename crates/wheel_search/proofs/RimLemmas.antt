@@ -1,8 +1,7 @@
 -- The rims of a circle of rows that hold one another are a dispute wheel.
-use Rattle.std.proofs.Common.{◌≡◌, ◌≢◌, ℕ, zero, suc, ◌<◌, ◌≤◌, ◌+◌, List, [], ◌∷◌, ◌++◌, length, get_or, map, take, drop, ◌-◌, refl, sym, ap, subst, ◌∙◌, arith, inl, inr, append_assoc, append-nil, length-append}
-use Rattle.std.specs.Prelude.{slice_index, slice_index_or}
-use Rattle.std.specs.List.{All, Contains}
-use Rattle.std.proofs.lemmas.Bool.{cases_eq}
+use Rattle.std.proofs.Common.{◌≡◌, ◌≢◌, ℕ, zero, suc, ◌<◌, ◌≤◌, ◌+◌, List, [], ◌∷◌, ◌++◌, length, map, take, drop, ◌-◌, refl, sym, ap, subst, ◌∙◌, arith, inl, inr, append_assoc, append-nil, length-append}
+use Rattle.std.specs.Prelude.{slice_index}
+use Rattle.std.specs.List.{All}
 use Rattle.std.proofs.lemmas.List.{take_all, length-take, length-drop, get_or-take, get_or-drop}
 use mathlib.Core.Logic.{◌⊎◌}
 use Rattle.ranked_policy.specs.Promises.{EachPolicyIsAnOrder}
@@ -15,9 +14,9 @@ use Rattle.wheel_search.specs.declared.letting.Letting.{Letting}
 use Rattle.wheel_search.specs.declared.row.Row.{Row}
 use Rattle.wheel_search.specs.declared.wait.Wait.{Wait}
 use Rattle.wheel_search.specs.declared.wait.Wait.TheVariants.{Rest}
-use Rattle.wheel_search.specs.Waits.{wait_of, Comes, AreWithin}
+use Rattle.wheel_search.specs.Waits.{wait_of}
 use Rattle.wheel_search.specs.Letting.{AreGone, Holds, HoldRound, IsCircle}
-use Rattle.wheel_search.specs.Rows.{AreRows, AreWaits, GoesOn, paths_at, path_at, router_at}
+use Rattle.wheel_search.specs.Rows.{AreRows, AreWaits, paths_at, path_at, router_at}
 use Rattle.wheel_search.specs.Found.{as_rim}
 use Rattle.wheel_search.specs.Rims.{rim_at, HeldAt, AreHeld, AddsRim, AreRimsOf}
 use Rattle.wheel_search.proofs.WaitLemmas.{same_row, same_place}

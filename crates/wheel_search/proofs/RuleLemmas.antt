@@ -1,16 +1,14 @@
 -- What a router permits and prefers, by its rule.
-use Rattle.std.proofs.Common.{◌≡◌, ◌≢◌, ℕ, zero, suc, ◌<◌, ◌≤◌, Bool, true, false, List, [], ◌∷◌, ◌++◌, length, get_or, take, drop, refl, sym, ap, subst, ◌∙◌, arith, inl, inr, Option, Some, None}
-use Rattle.std.specs.Prelude.{cond, not, ◌&&◌, ◌||◌, nat_lt}
+use Rattle.std.proofs.Common.{◌≡◌, ◌≢◌, ℕ, suc, ◌<◌, ◌≤◌, Bool, true, false, List, [], ◌∷◌, ◌++◌, length, get_or, take, drop, refl, sym, ap, subst, ◌∙◌, arith, inl, inr, Option, Some, None}
+use Rattle.std.specs.Prelude.{not, ◌&&◌, ◌||◌}
 use Rattle.std.specs.Bool.{Decides}
 use Rattle.std.specs.List.{All, AllPairs, Contains}
 use Rattle.std.proofs.Common.{drop-cons}
 use Rattle.std.proofs.lemmas.List.{get_or-take, take-append-drop, length-take-le, get_or_default}
 use Rattle.std.proofs.lemmas.List.Elements.{Contains-get_or}
-use mathlib.Core.Logic.{◌⊎◌}
 use Rattle.prefix_lanes.specs.Bits.{PrefixView}
 use Rattle.ranked_policy.specs.declared.network.RankRule.{RankRule}
-use Rattle.ranked_policy.specs.Orders.{ComesFirst, IsShorter}
-use Rattle.ranked_policy.specs.Paths.{IsRoute, EndsWith, BeginsWith}
+use Rattle.ranked_policy.specs.Paths.{EndsWith, BeginsWith}
 use Rattle.ranked_policy.specs.Plans.{AreRanked}
 use Rattle.ranked_policy.specs.Policies.{Table, IsTable, Originates, IsRuleFor, NoRuleFor, IsPermitted, IsPreferred}
 use Rattle.ranked_policy.specs.Promises.{OneRule}

@@ -1,10 +1,9 @@
 -- Paths that come to the origin, and what is let go.
-use Rattle.std.proofs.Common.{◌≡◌, ℕ, zero, suc, ◌<◌, ◌≤◌, ◌+◌, ◌↔◌, Bool, true, false, List, [], ◌∷◌, ◌++◌, length, get_or, set, refl, sym, ap, subst, ◌∙◌, arith, inl, inr}
-use Rattle.std.specs.Prelude.{slice_index, slice_index_or, cond, IsTrue}
+use Rattle.std.proofs.Common.{◌≡◌, ℕ, zero, suc, ◌≤◌, ◌↔◌, List, sym, ap, subst, ◌∙◌, inl, inr}
 use mathlib.Core.Logic.{◌⊎◌}
 use Rattle.wheel_search.specs.declared.wait.Wait.{Wait}
 use Rattle.wheel_search.specs.declared.wait.Wait.TheVariants.{Never, Nothing, Rest}
-use Rattle.wheel_search.specs.Waits.{wait_of, count_of, ComesIn, Comes, AreWithin, IsFree}
+use Rattle.wheel_search.specs.Waits.{wait_of, ComesIn, Comes, IsFree}
 
 abbrev row_in : Wait → ℕ
 row_in Never = 0

@@ -1,5 +1,6 @@
 pub mod Waits
 pub mod Letting
+pub mod Lists
 pub mod Rows
 pub mod Found
 pub mod Rims

@@ -1,5 +1,5 @@
 -- The paths of each router, the best first, and what each waits for.
-use Rattle.std.specs.Prelude.{ℕ, ◌≡◌, ◌≢◌, ◌<◌, ◌+◌, ◌^◌, List, [], ◌∷◌, length, map, slice_index, slice_index_or, Option, Some, None}
+use Rattle.std.specs.Prelude.{ℕ, ◌≡◌, ◌<◌, ◌≤◌, ◌+◌, ◌^◌, List, [], ◌∷◌, length, map, slice_index, slice_index_or, Some, None}
 use Rattle.std.specs.List.{All, Contains}
 use Rattle.prefix_lanes.specs.Bits.{PrefixView}
 use Rattle.ranked_policy.specs.Paths.{BeginsWith, EndsWith}
@@ -15,7 +15,8 @@ use Rattle.wheel_search.specs.declared.row.Seat.{Seat}
 use Rattle.wheel_search.specs.declared.row.Row.{Row}
 use Rattle.wheel_search.specs.declared.wait.Wait.{Wait}
 use Rattle.wheel_search.specs.declared.wait.Wait.TheVariants.{Never, Nothing, Rest}
-use Rattle.wheel_search.specs.Waits.{wait_of, count_of}
+use Rattle.wheel_search.specs.Found.{HasNoRule}
+use Rattle.wheel_search.specs.Lists.{walks_to}
 
 -- ---- routers
 
@@ -55,16 +56,44 @@ listed Free own = own
 abbrev pub paths_of : Row → List (List ℕ)
 paths_of row = listed row.seat.kind row.own.items
 
--- the paths of a router: each feasible one is among them, each that ends at an origin is permitted, and each is preferred
--- to those behind it
+-- paths of a router: each that ends at an origin is permitted, and each is preferred to those behind it
 pub record IsRow (p : Problem) (row : Row) : Type 0 where
   pub seat : IsSeat p row.seat
-  pub has : (rest : List ℕ) → IsFeasible p.net p.prefix (row.seat.router ∷ rest) → Contains (paths_of row) (row.seat.router ∷ rest)
   pub permitted : (path : List ℕ) (v : ℕ) → Contains (paths_of row) path → Originates seat.table p.prefix v → EndsWith path v
       → IsPermitted seat.table p.prefix path
   pub begins : All (λ path. BeginsWith path row.seat.router) (paths_of row)
   pub order : (i j : ℕ) → i < j → j < length (paths_of row)
       → IsPreferred seat.table p.prefix (slice_index_or (paths_of row) i []) (slice_index_or (paths_of row) j [])
+
+-- of a router without a rule the path has no more routers than this
+abbrev pub IsWithin : Problem → ℕ → ℕ → List ℕ → Type 0
+IsWithin p longest u path = HasNoRule p u → length path ≤ longest
+
+-- by a path of a router one goes on over a router without a rule so far at most
+abbrev pub GoesWithin : Problem → ℕ → ℕ → List (List ℕ) → Type 0
+GoesWithin p longest u paths = (v : ℕ) (rest : List ℕ) → Contains paths (u ∷ v ∷ rest) → IsWithin p longest v (v ∷ rest)
+
+-- of a router with a rule each feasible path is there, of one without a rule those of so many routers at most; and so
+-- the rest of each path is
+pub record IsWhole (p : Problem) (longest : ℕ) (row : Row) : Type 0 where
+  pub has : (rest : List ℕ) → IsFeasible p.net p.prefix (row.seat.router ∷ rest) → IsWithin p longest row.seat.router (row.seat.router ∷ rest)
+      → Contains (paths_of row) (row.seat.router ∷ rest)
+  pub short : (path : List ℕ) → Contains (paths_of row) path → IsWithin p longest row.seat.router path
+  pub onward : GoesWithin p longest row.seat.router (paths_of row)
+
+-- so far, at most, go the rests over routers without a rule of the paths that rules list
+abbrev pub AreWithin : Problem → ℕ → List Seat → Type 0
+AreWithin p longest seats = All (λ seat. GoesWithin p longest seat.router (listed seat.kind [])) seats
+
+-- the paths of a router other than those of a rule: those of so many routers at most, the shorter first, if it has no
+-- rule; else that of itself alone
+abbrev pub own_paths : Problem → ℕ → ℕ → Kind → List (List ℕ)
+own_paths p longest u Origin = (u ∷ []) ∷ []
+own_paths p longest u (Ranked paths) = (u ∷ []) ∷ []
+own_paths p longest u Free = walks_to p.net p.prefix longest u
+
+abbrev pub OwnPaths : Problem → ℕ → Seat → List (List ℕ) → Type 0
+OwnPaths p longest seat own = own ≡ own_paths p longest seat.router seat.kind
 
 -- ---- the paths of all routers
 
@@ -80,8 +109,16 @@ path_at rows row place = slice_index_or (paths_at rows row) place []
 pub record AreRows (p : Problem) (rows : List Row) : Type 0 where
   pub routers : map (λ r. r.seat.router) rows ≡ numbers p.net.routers
   pub each : All (IsRow p) rows
+  pub longest : ℕ
+  pub whole : All (IsWhole p longest) rows
 
 -- ---- what a path waits for
+
+-- the rest of a path, if it is feasible, stands in the row of its router
+abbrev pub RestStands : Problem → List Row → List ℕ → Type 0
+RestStands p rows path =
+    (u v : ℕ) (rest : List ℕ) → path ≡ u ∷ v ∷ rest → IsFeasible p.net p.prefix (v ∷ rest)
+    → (next : ℕ) → next < length rows → router_at rows next ≡ v → Contains (paths_at rows next) (v ∷ rest)
 
 -- a path goes on from the router of a row over a link, by the path at a place of another row
 pub record GoesOn (p : Problem) (rows : List Row) (router : ℕ) (path : List ℕ) (next at : ℕ) : Type 0 where

@@ -1,5 +1,5 @@
 -- What the paths of rows wait for before they may be let go. Rows and places in them are numbers here.
-use Rattle.std.specs.Prelude.{ℕ, zero, suc, ◌≡◌, ◌<◌, ◌≤◌, ◌+◌, ◌^◌, List, [], ◌∷◌, length, slice_index_or}
+use Rattle.std.specs.Prelude.{ℕ, zero, suc, ◌≡◌, ◌<◌, ◌≤◌, ◌+◌, ◌^◌, List, [], length, slice_index_or}
 use mathlib.Core.Logic.{◌⊎◌}
 use Rattle.ranked_policy.specs.declared.limits.TheConstants.{LONGEST_PATH}
 use Rattle.wheel_search.specs.declared.wait.Wait.{Wait}

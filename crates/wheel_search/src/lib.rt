@@ -9,17 +9,21 @@
 //! another in a circle: the rest of the first path that a row could not let go stands in the next row, where it was not
 //! let go. That circle is the wheel, without the rows whose path is the rest itself.
 //!
-//! Where no router has a rule each path hangs on shorter ones alone, and there is no wheel. Where some routers have one and
-//! others have none, the paths of those are in no row, and the search refuses.
+//! Where no router has a rule each path hangs on shorter ones alone, and there is no wheel. Where some routers have one
+//! and others have none, the feasible paths of those are listed, the shorter first: each is a router in front of a path
+//! of a peer. Only such are that are no longer than the longest rest of a rule's path which begins with a router without
+//! a rule: a longer one hangs on shorter ones or on listed ones, so it is in no circle. Where a router has more than a
+//! limit the search refuses.
 //!
-//! The definitions stand in `specs/`: `Found` (what is answered and refused), `Rows` (the paths of each router), `Waits`
-//! (what a path waits for), `Letting` (what was let go, and what holds what) and `Rims` (the rims of a circle).
+//! The definitions stand in `specs/`: `Found` (what is answered and refused), `Lists` (feasible paths by length), `Rows`
+//! (the paths of each router), `Waits` (what a path waits for), `Letting` (what was let go, and what holds what) and
+//! `Rims` (the rims of a circle).
 //!
-//! Left out: networks of which some routers have a rule and others none; what it means that there is no wheel, which is
-//! `dispute_wheels`'; texts.
+//! Left out: what it means that there is no wheel, which is `dispute_wheels`'; texts.
 #![tactic(auto)]
 
 mod letting;
+mod listing;
 mod refusal;
 mod rim;
 mod rims;

@@ -9,9 +9,9 @@ use thiserror::Error;
 /// Why it was not found whether there is a dispute wheel. What the call was lent is as it was.
 #[derive(Debug, Drop, Error)]
 pub enum WheelError {
-    /// The router has no rule for the prefix and is not the origin, so that no list has all of its paths; another router
-    /// has a rule.
-    #[error("router {router} has no list of its paths")]
+    /// The router has no rule for the prefix and is not the origin, and more feasible paths than are listed; another
+    /// router has a rule.
+    #[error("router {router} has more paths than are listed")]
     UnlistedPaths {
         /// The router.
         router: u32,

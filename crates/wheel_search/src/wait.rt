@@ -1,9 +1,9 @@
 //! What each path of a row waits for before it may be let go.
 
 ghost use Rattle.std.specs.Prelude.{◌≡◌, ◌↔◌, ◌+◌, ◌^◌, ◌<◌, ◌∷◌, [], ℕ, List, IfOk, IsTrue, MatchOption, length, slice_index_or};
-ghost use Rattle.std.specs.List.{Contains};
+ghost use Rattle.std.specs.List.{All, Contains};
 ghost use Rattle.ranked_policy.specs.Paths.{BeginsWith};
-ghost use Rattle.wheel_search.specs.Rows.{AreRows, IsRow, IsWait, IsEachWait, AreWaits};
+ghost use Rattle.wheel_search.specs.Rows.{AreRows, IsRow, IsWait, IsEachWait, AreWaits, RestStands, paths_of};
 ghost use Rattle.wheel_search.specs.Waits.{wait_of, Comes};
 
 use crate::row::{Kind, Row};
@@ -46,6 +46,7 @@ fn place_of_rest(paths: &[Path], router: Asn, path: &[Asn]) -> Option<usize>
 fn wait_over(instance: &Instance, rows: &[Row], row: &Row, peer: Asn, path: &[Asn]) -> Wait
     requires rows { AreRows instance.now rows.now }
     requires over { (rest : List ℕ) × (path.now ≡ row.now.seat.router ∷ peer ∷ rest) }
+    requires stands { RestStands instance.now rows.now path.now }
     ensures { IsWait instance.now rows.now row.now path.now result }
 {
     each_policy_is_an_order();
@@ -69,6 +70,7 @@ fn wait_for(instance: &Instance, rows: &[Row], row: &Row, path: &[Asn]) -> Wait
     requires rows { AreRows instance.now rows.now }
     requires row { IsRow instance.now row.now }
     requires begins { BeginsWith path.now row.now.seat.router }
+    requires stands { RestStands instance.now rows.now path.now }
     ensures { IsWait instance.now rows.now row.now path.now result }
 {
     each_policy_is_an_order();
@@ -91,6 +93,7 @@ fn waits_of(
 ) -> Result<NetItems<Wait>, AllocError>
     requires rows { AreRows instance.now rows.now }
     requires row { IsRow instance.now row.now }
+    requires stand { All (RestStands instance.now rows.now) (paths_of row.now) }
     ensures { IfOk result (λ waits. IsEachWait instance.now rows.now row.now waits) }
 {
     let paths = row.paths();
@@ -110,6 +113,8 @@ pub(crate) fn all_waits(
     requires { AreRows instance.now rows.now }
     ensures { IfOk result (λ waits. AreWaits instance.now rows.now waits.items) }
 {
+    each_policy_is_an_order();
+    let _network = instance.network();
     let mut waits = Vec::with_capacity(alloc, rows.len())?;
     for row in rows {
         waits.push(waits_of(alloc, instance, rows, row)?)?;

@@ -126,6 +126,14 @@ fn numbers_of_words_are_read(rt: HostRuntime) -> Result<(), Fail> {
     );
     assert!(rt;
         matches!(
+            read_words(alloc, &["safe"])?,
+            Asked::Task(Task::Safe(1_000))
+        )
+    );
+    let safe = ["safe", "--paths", "7"];
+    assert!(rt; matches!(read_words(alloc, &safe)?, Asked::Task(Task::Safe(7))));
+    assert!(rt;
+        matches!(
             read_words(alloc, &["trace"])?,
             Asked::Task(Task::Trace(false))
         )

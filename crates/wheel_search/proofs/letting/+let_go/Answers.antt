@@ -1,8 +1,8 @@
-use Rattle.std.proofs.Common.{◌≡◌, ◌<◌, ◌≤◌, ◌∙◌, ◌+◌, ℕ, true, false, set, List, length, length-append, [], ◌∷◌, refl, sym, ap, subst, arith}
+use Rattle.std.proofs.Common.{◌≡◌, ◌<◌, ◌≤◌, ◌∙◌, ◌+◌, ℕ, false, set, List, length, length-append, [], ◌∷◌, refl, sym, ap, subst, arith}
 use Rattle.std.specs.Prelude.{slice_index}
 use Rattle.wheel_search.specs.declared.letting.Letting.{Letting}
 use Rattle.std.specs.Vec.{with_item}
-use Rattle.wheel_search.specs.Letting.{IsBusy, IsOn, IsHeld, HasGone}
+use Rattle.wheel_search.specs.Letting.{IsOn, IsHeld, HasGone}
 use Rattle.wheel_search.proofs.LettingLemmas.{closes_here, may_on, fewer_on, held_on, went_on, step_on, done_on, free_by, busy_read, shut_read, popped}
 use Rattle.wheel_search.proofs.letting.+let_go.Goals as goal
 use Rattle.wheel_search.proofs.letting.+let_go.Goals.{in-Some+else-index+in_ok-closes+in_default-2, in_default}

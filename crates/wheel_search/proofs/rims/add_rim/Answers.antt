@@ -1,4 +1,4 @@
-use Rattle.std.proofs.Common.{◌≡◌, ◌∙◌, ◌<◌, ◌≤◌, ◌++◌, ◌∷◌, [], ℕ, List, refl, sym, ap, arith, inl, inr}
+use Rattle.std.proofs.Common.{◌∙◌, ◌++◌, ◌∷◌, [], refl, sym, ap, arith, inl, inr}
 use Rattle.wheel_search.specs.declared.rim.Rim.{Rim}
 use Rattle.wheel_search.proofs.RimLemmas.{held_place, held_here, rim_is}
 use Rattle.wheel_search.proofs.rims.add_rim.Goals as goal

@@ -1,9 +1,9 @@
 use Rattle.std.proofs.Common.{◌≡◌, ap, subst, sym, ◌∙◌}
-use Rattle.std.specs.Prelude.{◌↔◌, IsTrue, Option, Some, None}
+use Rattle.std.specs.Prelude.{Some, None}
 use Rattle.prefix_lanes.specs.Bits.{PrefixView}
 use Rattle.ranked_policy.specs.Plans.{Plan}
 use Rattle.ranked_policy.specs.Tests.{rule_for}
-use Rattle.ranked_policy.specs.Policies.{IsTableOf, Originates}
+use Rattle.ranked_policy.specs.Policies.{IsTableOf}
 use Rattle.stable_paths.proofs.TableLemmas.{origin_here}
 use Rattle.wheel_search.proofs.row.kind_of.Goals as goal
 

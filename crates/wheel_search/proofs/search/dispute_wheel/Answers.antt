@@ -1,9 +1,8 @@
-use Rattle.std.proofs.Common.{◌≡◌, List, sym, subst, ap, inl, inr}
+use Rattle.std.proofs.Common.{◌∙◌, List, ℕ, length, sym, subst, ap, inl, inr}
 use Rattle.std.specs.List.{Any}
 use Rattle.wheel_search.specs.declared.row.Seat.{Seat}
-use Rattle.wheel_search.specs.Found.{HasNoRule, HasRule}
-use Rattle.wheel_search.specs.Rows.{IsSeat, IsRanked, IsFreeKind}
-use Rattle.wheel_search.proofs.RowLemmas.{free_none, ranked_some, no_rules_no_cycle}
+use Rattle.wheel_search.specs.Rows.{IsSeat, IsRanked, AreWithin}
+use Rattle.wheel_search.proofs.RowLemmas.{ranked_some, no_rules_no_cycle, refusal_is, memory_with_rules}
 use Rattle.wheel_search.proofs.search.dispute_wheel.Goals as goal
 
 pub returns-then-not-some_ranked-clause-found : goal.returns-then-not-some_ranked-clause-found
@@ -17,18 +16,26 @@ returns-then-not-some_ranked-clause-found c =
       | inr wheel ↦ absurd (no_rules_no_cycle c.policies_are_tests.ensures.prefers c.the_longest_rule_is_one.ensures p is c.in_ok-seats.seats.items c.in_ok-seats.ensures none ((c.wheels_are_cycles.ensures p is).0 wheel))
     ]
 
-pub returns-in-Some-clause-refused : goal.returns-in-Some-clause-refused
-returns-in-Some-clause-refused c =
+pub returns-in-Err-clause-refused : goal.returns-in-Err-clause-refused
+returns-in-Err-clause-refused c =
     let p = c.args.instance.now in
     let is = c.network-network.ensures.problem.problem in
-    let tests = c.policies_are_tests.ensures.prefers in
-    let one = c.the_longest_rule_is_one.ensures in
-    let seats = c.in_ok-seats.seats.items in
-    let are = c.in_ok-seats.ensures in
-    let free = subst (λ (xs : List Seat). Any (λ seat. (seat.router ≡ c.in-Some.router) × IsFreeKind seat.kind) xs) c.as_slice-2.ensures.value c.in-Some.ensures in
     let ranked = subst (λ (xs : List Seat). Any (λ seat. IsRanked seat.kind) xs) c.as_slice.ensures.value (c.some_ranked.ensures.0 c.if-not-some_ranked.false) in
-    let first : IsSeat p free.1 = subst (IsSeat p) free.3 (are.each free.0 free.1 free.2) in
-    let other : IsSeat p ranked.1 = subst (IsSeat p) ranked.3 (are.each ranked.0 ranked.1 ranked.2) in (
-      subst (HasNoRule p) free.4.0 (free_none tests one p is free.1 first free.4.1),
-      (ranked.1.router, ranked_some tests one p is ranked.1 other ranked.4),
-    )
+    let seat : IsSeat p ranked.1 = subst (IsSeat p) ranked.3 (c.in_ok-seats.ensures.each ranked.0 ranked.1 ranked.2) in
+    refusal_is p c.args.most c.in-Err.why c.in-Err.ensures.refused (ranked.1.router, ranked_some c.policies_are_tests.ensures.prefers c.the_longest_rule_is_one.ensures p is ranked.1 seat ranked.4)
+
+pub returns-in-Err-clause-no_rule : goal.returns-in-Err-clause-no_rule
+returns-in-Err-clause-no_rule c = λ none.
+    (let p = c.args.instance.now in
+    let is = c.network-network.ensures.problem.problem in
+    let ranked = subst (λ (xs : List Seat). Any (λ seat. IsRanked seat.kind) xs) c.as_slice.ensures.value (c.some_ranked.ensures.0 c.if-not-some_ranked.false) in
+    let seat : IsSeat p ranked.1 = subst (IsSeat p) ranked.3 (c.in_ok-seats.ensures.each ranked.0 ranked.1 ranked.2) in
+    absurd (none ranked.1.router (ranked_some c.policies_are_tests.ensures.prefers c.the_longest_rule_is_one.ensures p is ranked.1 seat ranked.4)))
+
+pub returns-in-Err-clause-each_rule : goal.returns-in-Err-clause-each_rule
+returns-in-Err-clause-each_rule c = λ all. memory_with_rules c.args.instance.now c.args.most c.in-Err.why c.in-Err.ensures.refused all
+
+pub rows-requires-clause-within : goal.rows-requires-clause-within
+rows-requires-clause-within c =
+    subst (λ (n : ℕ). AreWithin c.args.instance.now n c.as_slice-4.result.now) (sym (ap length c.as_slice-5.ensures.value ∙ c.in-Ok.ensures.size))
+    (subst (λ (xs : List Seat). AreWithin c.args.instance.now c.longest_rest-longest.result xs) (c.as_slice-2.ensures.value ∙ sym c.as_slice-4.ensures.value) c.longest_rest-longest.ensures)

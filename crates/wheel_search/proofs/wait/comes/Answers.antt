@@ -1,5 +1,4 @@
-use Rattle.std.proofs.Common.{◌≡◌, ◌↔◌, ◌∙◌, ℕ, zero, suc, ◌+◌, ◌-◌, sym, refl, arith}
-use Rattle.std.specs.Prelude.{IsTrue}
+use Rattle.std.proofs.Common.{◌≡◌, ◌∙◌, suc, ◌-◌, sym, refl, arith}
 use Rattle.wheel_search.proofs.WaitLemmas.{never_comes, nothing_comes, comes_on, never_in}
 use Rattle.wheel_search.proofs.wait.comes.Goals as goal
 

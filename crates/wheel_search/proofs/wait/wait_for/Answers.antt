@@ -1,4 +1,4 @@
-use Rattle.std.proofs.Common.{◌≡◌, inl, inr}
+use Rattle.std.proofs.Common.{inl, inr}
 use Rattle.wheel_search.proofs.RowLemmas.{not_alone}
 use Rattle.wheel_search.proofs.wait.wait_for.Goals as goal
 

@@ -1,7 +1,7 @@
-use Rattle.std.proofs.Common.{◌≡◌, ◌∙◌, ◌<◌, ℕ, List, length, sym, ap, subst}
+use Rattle.std.proofs.Common.{◌≡◌, ◌∙◌, ◌<◌, length, sym, ap, subst}
 use Rattle.std.specs.List.{HoldsAt}
 use Rattle.ranked_policy.specs.Plans.{Plan, IsRouter, Linked}
-use Rattle.wheel_search.specs.Rows.{paths_of, paths_at, router_at}
+use Rattle.wheel_search.specs.Rows.{paths_of, paths_at}
 use Rattle.wheel_search.proofs.GraphLemmas.{not_known, not_listed, not_linked, goes_on, router_found, paths_here}
 use Rattle.wheel_search.proofs.wait.wait_over.Goals as goal
 
@@ -23,7 +23,7 @@ returns-in_default-place_of_rest c =
     let paths : c.paths.result.now ≡ paths_at rows next =
     c.paths.ensures ∙ ap paths_of c.index-rows-next.is ∙ sym (paths_here law p net.problem.problem rows c.requires.rows next c.index-rows-next.result found.0) in
     not_listed law p net.problem.problem rows c.requires.rows c.args.row.now.seat.router c.args.peer next c.requires.over.0 c.args.path.now c.requires.over.1 found.0 found.1 c.paths.result.now paths
-    c.in_default-place_of_rest.ensures
+    c.requires.stands c.in_default-place_of_rest.ensures
 
 pub returns-then-linked : goal.returns-then-linked
 returns-then-linked c =
