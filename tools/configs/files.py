@@ -20,8 +20,8 @@ def is_of_bird(text):
 
 
 def obey(text, name, of_bird=None):
-    """The router that a file is the configuration of, as far as its lines are taken, or None, and the reasons why others
-    are refused; its language is told by what it holds where nothing says it."""
+    """The router that a file is the configuration of, as far as its lines are taken, or None, and the reasons why
+    others are refused; its language is told by what it holds where nothing says it."""
     at = text.find("\0")
     if at >= 0:
         reasons = Reasons()

@@ -60,8 +60,8 @@ class Ranks:
                      for other in tie.blocks if tie.is_above(other, block)]
             words = listed(map(text, paths)) + (f" (by MED {listed(above)})" if above else "")
             yield self.set.routers[asn].place, (
-                f"{self.set.router_text(asn)} {listed(map(str, prefixes))}: tie: {words}: FRR keeps the one that it selected first, and here "
-                "they stand by router id (without 'bgp bestpath compare-routerid')")
+                f"{self.set.router_text(asn)} {listed(map(str, prefixes))}: tie: {words}: FRR keeps the one that it "
+                "selected first, and here they stand by router id (without 'bgp bestpath compare-routerid')")
 
     def paths(self, prefix):
         """The permitted paths of each router for a prefix, best first."""

@@ -82,8 +82,8 @@ def waiting(router):
             said = "which changes no end, and may change which of several ends comes"
             if suppresses:
                 said = ("and FRR may leave the neighbor without a route that it has: one that comes again while its "
-                        "withdrawal waits is suppressed as a duplicate, and the withdrawal goes out all the same; not so "
-                        "with 'no bgp suppress-duplicates'")
+                        "withdrawal waits is suppressed as a duplicate, and the withdrawal goes out all the same; not "
+                        "so with 'no bgp suppress-duplicates'")
             router.warn(line.place, f"neighbor {neighbor.key} advertisement-interval: UPDATEs wait up to {line.name} "
                                     f"seconds, {said}")
 

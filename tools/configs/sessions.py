@@ -39,8 +39,8 @@ class Set(Named):
     """The routers of a set of configurations, and their sessions.
 
     `ends` has for each router's number its end of each session, by the number of the peer; `up` those of sessions that
-    carry routes. `reasons` are those why lines of the files are refused: with what is refused of sessions all of them are
-    told at once. What hangs on refused lines is not refused by itself."""
+    carry routes. `reasons` are those why lines of the files are refused: with what is refused of sessions all of them
+    are told at once. What hangs on refused lines is not refused by itself."""
 
     def __init__(self, routers, reasons=None):
         self.reasons = reasons or Reasons()

@@ -9,8 +9,9 @@ class Speaker:
     neighbors by address, `networks` what it announces by prefix, `addresses` those of its interfaces. `notes` are its
     warnings, each with its place; `foreign` has the numbers of lines that other daemons take, and `end` that of its
     last line.
-    `language` names the software that reads it, `included` are the paths of files that the file includes, `keeps_routes` is
-    whether it keeps the routes of a peer that restarts, and `is_whole` whether all lines of its file are taken."""
+    `language` names the software that reads it, `included` are the paths of files that the file includes,
+    `keeps_routes` is whether it keeps the routes of a peer that restarts, and `is_whole` whether all lines of its file
+    are taken."""
 
     language, included, keeps_routes, is_whole = None, frozenset(), False, True
 

@@ -61,8 +61,8 @@ class Peer(Neighbor):
 
 
 class Router(Speaker):
-    """What a file in the language of BIRD says. `included` are the files that it includes, `reasons` why what it says is
-    refused."""
+    """What a file in the language of BIRD says. `included` are the files that it includes, `reasons` why what it says
+    is refused."""
 
     language = "BIRD"
 

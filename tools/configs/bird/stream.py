@@ -89,7 +89,8 @@ class Stream:
     # ---- what is refused
 
     def try_to_read(self, read, skip):
-        """Reads something, and says whether it is taken. Where it is refused the reason is kept, and it is passed over."""
+        """Reads something, and says whether it is taken. Where it is refused the reason is kept, and it is passed
+        over."""
         begin, routine, levels = self.at, self.routine, [dict(level) for level in self.scopes.levels]
         try:
             read()
