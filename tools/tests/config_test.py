@@ -1046,6 +1046,35 @@ class Random(unittest.TestCase):
             self.assertEqual((status, error), (1, ""))
             self.assertTrue(out.startswith("skipped"))
 
+    def test_beside_waits_for_updates_that_wait(self):
+        """Where a line says an interval, silence that is no longer than that is no end: a route may still come."""
+        from configs import lab
+
+        class Clock:
+            """A clock that only sleeping moves."""
+
+            now = 0.0
+
+            def monotonic(self):
+                return self.now
+
+            def sleep(self, seconds):
+                self.now += seconds
+
+        for seconds, seen in ((0, 1), (30, 2)):
+            clock, files = Clock(), pair("", f"neighbor 10.255.1.1 advertisement-interval {seconds}")
+            with tempfile.TemporaryDirectory() as folder, unittest.mock.patch.object(lab, "time", clock):
+                routers = read_set(files)
+                running = lab.Lab({"FRR": "/"}, routers, {asn: files[one.name] for asn, one in routers.routers.items()},
+                                  folder)
+                # What a router has changes once, twenty seconds after the sessions came up.
+                looks = []
+                with unittest.mock.patch.multiple(running, are_up=lambda down=None: True, is_far=False, look=lambda: (
+                        looks.append([clock.now > 20] * 2) or looks[-1])):
+                    self.assertEqual(running.wait(), "quiet")
+            self.assertEqual(len({tuple(look) for look in looks}), seen, (seconds, clock.now))
+            self.assertEqual(clock.now > 20 + seconds, bool(seconds))
+
     def test_beside_frr_leaves_out_the_paths_over_a_link(self):
         paths = {1: [(1,)], 2: [(2, 3, 1), (2, 1)], 3: [(3, 1), (3, 2, 1)]}
         from configs.failures import without
