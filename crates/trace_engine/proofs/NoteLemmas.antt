@@ -10,7 +10,7 @@ use Rattle.trace_engine.specs.Noting.{begin_note, noted, notes_text, AreNotes}
 noted_by : (b : Bool) (line : Text) → IsOneLine line → IsOneLine (if b then line else codes "also " ++ line)
 noted_by true line one = one
 noted_by false line one =
-    ((λ e. absurd (omega (arith, e))), (λ e. absurd (omega (arith, e))), (λ e. absurd (omega (arith, e))), (λ e. absurd (omega (arith, e))), (λ e. absurd (omega (arith, e))), one)
+    ((λ e. absurd (omega (arith, e))), ((λ e. absurd (omega (arith, e))), ((λ e. absurd (omega (arith, e))), ((λ e. absurd (omega (arith, e))), ((λ e. absurd (omega (arith, e))), one)))))
 
 all_noted : (lines : List Text) → AllByRecursion IsOneLine lines → AllByRecursion IsOneLine (map noted lines)
 all_noted [] all = tt

@@ -22,4 +22,4 @@ returns-clause-ok c =
     let comments = notes_text (lines_of c.text.result.now) in
     on_ok c.put_notes.result (new ≡ mid ++ comments) (Adds old new (EventLines c.args.event.now))
     (λ last. (line ++ comments, (comments, record { lines = lines_of c.text.result.now; are_lines = one_lines c.text.result.now; are = refl }, refl), last ∙ ap (λ (t : List ℕ). t ++ comments) c.in_ok-event_line.ensures.ok ∙ append_assoc old line comments))
-    c.put_notes.ensures.ok
+    c.put_notes.ensures
