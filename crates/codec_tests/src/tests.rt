@@ -3,4 +3,5 @@
 mod bgp_codec_tests;
 mod bgp_framing_tests;
 mod framed_tests;
+mod laws;
 mod outbox_tests;

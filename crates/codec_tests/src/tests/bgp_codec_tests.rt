@@ -1,7 +1,7 @@
 //! Messages and their octets, and the faults of octets.
 
 use bgp_codec::{
-    CodecError, Fault, Items, Message, NOBODY, Notice, Octets, encode, is_writable, laws, notice_of,
+    CodecError, Fault, Items, Message, NOBODY, Notice, Octets, encode, is_writable, notice_of,
 };
 use std::alloc::{AllocError, Global};
 use std::process::Abort;
@@ -89,31 +89,13 @@ fn the_longest_notification_is_written(rt: HostRuntime) -> Result<(), Fail> {
 }
 
 #[test]
-fn octets_are_kept_in_place_and_in_memory(rt: HostRuntime) -> Result<(), Fail> {
+fn octets_and_items_are_kept(rt: HostRuntime) -> Result<(), Fail> {
     let long = [9u8; 17];
     let octets = Octets::from_slice(rt.alloc(), &long)?;
     assert!(rt; octets.as_slice() == long.as_slice());
     assert!(rt; octets.into_small_vec().as_slice() == long.as_slice());
-    Ok(())
-}
-
-#[test]
-fn items_stand_alone_or_in_a_block(rt: HostRuntime) -> Result<(), Fail> {
     assert!(rt; Items::one(7u8).as_slice() == [7u8].as_slice());
     let items = Items::from_vec(vec![in rt.alloc(); 1u8, 2]?);
     assert!(rt; items.as_slice() == [1u8, 2].as_slice());
     Ok(())
-}
-
-// Calls each law once.
-#[test]
-fn each_law_holds_at_a_type() {
-    laws::one_message_or_fault();
-    laws::written_is_spelt();
-    laws::written_is_read();
-    laws::a_peers_writing_is_read();
-    laws::spelt_is_writable();
-    laws::header_is_its_front();
-    laws::header_fault_is_short();
-    laws::fault_fits_a_message();
 }

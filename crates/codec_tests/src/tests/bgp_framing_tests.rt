@@ -1,6 +1,6 @@
 //! Messages out of a stream, however it is cut.
 
-use bgp_framing::{Framer, Next, laws, next_message};
+use bgp_framing::{Framer, Next, next_message};
 use std::alloc::Global;
 use std::process::Abort;
 use std::test::Fail;
@@ -26,101 +26,143 @@ fn in_short(next: &Next) -> Seen {
     }
 }
 
-fn front(framer: &Framer) -> Seen {
-    in_short(&framer.next())
+/// What is done to a framer, or asked of it. Its octets are those of one KEEPALIVE after the other.
+#[derive(Clone, Copy)]
+enum Step {
+    /// It is fed these octets, where nothing waits; then this stands in front.
+    Feeds(usize, usize, Seen),
+    /// It is fed 19 zeros.
+    FeedsZeros(Seen),
+    /// The message in front is dropped, which leaves so many octets.
+    Drops(usize),
+    /// This stands in front.
+    Fronts(Seen),
+    /// It has so many octets.
+    Has(usize),
+    /// Its octets are those of a KEEPALIVE.
+    HasKeepalive,
+    Waits,
+    Clears,
 }
 
-// Feeds a piece where nothing waits, and says what stands in front.
-fn fed(framer: &mut Framer, piece: &[u8]) -> Option<Seen> {
+struct Case {
+    name: &'static str,
+    steps: &'static [Step],
+}
+
+#[rattlefmt::skip]
+static CASES: [Case; 3] = [
+    Case { name: "octet by octet", steps: &[
+        Step::Feeds(0, 1, Seen::More),
+        Step::Feeds(1, 2, Seen::More),
+        Step::Feeds(2, 3, Seen::More),
+        Step::Feeds(3, 4, Seen::More),
+        Step::Feeds(4, 5, Seen::More),
+        Step::Feeds(5, 6, Seen::More),
+        Step::Feeds(6, 7, Seen::More),
+        Step::Feeds(7, 8, Seen::More),
+        Step::Feeds(8, 9, Seen::More),
+        Step::Feeds(9, 10, Seen::More),
+        Step::Feeds(10, 11, Seen::More),
+        Step::Feeds(11, 12, Seen::More),
+        Step::Feeds(12, 13, Seen::More),
+        Step::Feeds(13, 14, Seen::More),
+        Step::Feeds(14, 15, Seen::More),
+        Step::Feeds(15, 16, Seen::More),
+        Step::Feeds(16, 17, Seen::More),
+        Step::Feeds(17, 18, Seen::More),
+        Step::Feeds(18, 19, Seen::Whole(0, 19)),
+        Step::HasKeepalive,
+    ] },
+    // Many messages in one piece leave the rest in front of the next piece: two KEEPALIVEs and seven octets of another.
+    Case { name: "messages are dropped from the front", steps: &[
+        Step::Feeds(0, 45, Seen::Whole(0, 19)),
+        Step::Drops(26),
+        Step::Drops(7),
+        Step::Fronts(Seen::More),
+        Step::Feeds(45, 57, Seen::Whole(0, 19)),
+        Step::HasKeepalive,
+    ] },
+    Case { name: "a fault stays until it is cleared", steps: &[
+        Step::FeedsZeros(Seen::Bad),
+        Step::Fronts(Seen::Bad),
+        Step::Waits,
+        Step::Clears,
+        Step::Fronts(Seen::More),
+        Step::Has(0),
+    ] },
+];
+
+// Three KEEPALIVEs.
+static KEEPALIVES: [u8; 57] = [
+    0xff, 0xff, 0xff, 0xff, 0xff, 0xff, 0xff, 0xff, 0xff, 0xff, 0xff, 0xff, 0xff, 0xff, 0xff, 0xff,
+    0, 19, 4, 0xff, 0xff, 0xff, 0xff, 0xff, 0xff, 0xff, 0xff, 0xff, 0xff, 0xff, 0xff, 0xff, 0xff,
+    0xff, 0xff, 0, 19, 4, 0xff, 0xff, 0xff, 0xff, 0xff, 0xff, 0xff, 0xff, 0xff, 0xff, 0xff, 0xff,
+    0xff, 0xff, 0xff, 0xff, 0, 19, 4,
+];
+
+// Feeds a piece where nothing waits; whether that then stands in front.
+fn feeds(framer: &mut Framer, piece: Option<&[u8]>, want: Seen) -> bool {
+    let Some(piece) = piece else {
+        return false;
+    };
     if framer.is_waiting() || piece.len() > 4096 {
-        return None;
+        return false;
     }
     framer.feed(piece);
-    Some(front(framer))
+    in_short(&framer.next()) == want
 }
 
-fn feed_octets(rt: &impl Abort, framer: &mut Framer) {
-    for (i, octet) in KEEPALIVE.iter().enumerate() {
-        let want = if i < 18 {
-            Seen::More
-        } else {
-            Seen::Whole(0, 19)
-        };
-        assert!(rt; fed(framer, &[*octet]) == Some(want));
+fn drops(framer: &mut Framer) -> usize {
+    if let Next::Whole(..) = framer.next() {
+        framer.drop_front();
     }
-    assert!(rt; framer.bytes() == KEEPALIVE.as_slice());
+    framer.rest_len()
+}
+
+// Whether a step is so.
+fn is_so(framer: &mut Framer, step: &Step) -> bool {
+    match step {
+        Step::Feeds(from, to, want) => feeds(framer, KEEPALIVES.get(*from..*to), *want),
+        Step::FeedsZeros(want) => feeds(framer, Some(&[0; 19]), *want),
+        Step::Drops(left) => drops(framer) == *left,
+        Step::Fronts(want) => in_short(&framer.next()) == *want,
+        Step::Has(count) => framer.rest_len() == *count,
+        Step::HasKeepalive => framer.bytes() == KEEPALIVE.as_slice(),
+        Step::Waits => framer.is_waiting(),
+        Step::Clears => {
+            framer.clear();
+            true
+        }
+    }
+}
+
+fn plays(rt: &impl Abort, framer: &mut Framer, name: &str, steps: &[Step]) {
+    for (i, step) in steps.iter().enumerate() {
+        assert!(rt; is_so(framer, step), "{name}: step {i}");
+    }
 }
 
 #[test]
-fn a_message_is_framed_octet_by_octet(rt: HostRuntime) -> Result<(), Fail> {
-    let mut framer = Framer::new(rt.alloc())?;
-    feed_octets(&rt, &mut framer);
+fn framers_answer_step_by_step(rt: HostRuntime) -> Result<(), Fail> {
+    for case in &CASES {
+        let mut framer = Framer::new(rt.alloc())?;
+        plays(&rt, &mut framer, case.name, case.steps);
+    }
     Ok(())
-}
-
-fn feed_in_two(rt: &impl Abort, framer: &mut Framer, front: &[u8], back: &[u8]) {
-    assert!(rt; fed(framer, front) == Some(Seen::More));
-    assert!(rt; framer.rest_len() == front.len());
-    assert!(rt; fed(framer, back) == Some(Seen::Whole(0, 19)));
 }
 
 #[test]
 fn a_message_is_framed_from_any_two_pieces(rt: HostRuntime) -> Result<(), Fail> {
     for cut in 1..19usize {
         let mut framer = Framer::new(rt.alloc())?;
-        let (front, back) = KEEPALIVE.split_at(cut);
-        feed_in_two(&rt, &mut framer, front, back);
+        let steps = [
+            Step::Feeds(0, cut, Seen::More),
+            Step::Has(cut),
+            Step::Feeds(cut, 19, Seen::Whole(0, 19)),
+        ];
+        plays(&rt, &mut framer, "two pieces", &steps);
     }
-    Ok(())
-}
-
-// Two KEEPALIVEs and seven octets of another.
-fn two_and_a_part() -> [u8; 45] {
-    let mut piece = [0xff; 45];
-    for (i, octet) in piece.iter_mut().enumerate() {
-        *octet = KEEPALIVE[i % 19];
-    }
-    piece
-}
-
-// Drops the message in front, which leaves so many octets.
-fn drop_one(rt: &impl Abort, framer: &mut Framer, left: usize) {
-    if let Next::Whole(..) = framer.next() {
-        framer.drop_front();
-    }
-    assert!(rt; framer.rest_len() == left);
-}
-
-fn drop_messages(rt: &impl Abort, framer: &mut Framer) {
-    assert!(rt; fed(framer, &two_and_a_part()) == Some(Seen::Whole(0, 19)));
-    drop_one(rt, framer, 26);
-    drop_one(rt, framer, 7);
-    assert!(rt; front(framer) == Seen::More);
-    assert!(rt; fed(framer, &KEEPALIVE[7..]) == Some(Seen::Whole(0, 19)));
-    assert!(rt; framer.bytes() == KEEPALIVE.as_slice());
-}
-
-// Many messages in one piece leave the rest in front of the next piece.
-#[test]
-fn messages_are_dropped_from_the_front(rt: HostRuntime) -> Result<(), Fail> {
-    let mut framer = Framer::new(rt.alloc())?;
-    drop_messages(&rt, &mut framer);
-    Ok(())
-}
-
-fn clear_a_fault(rt: &impl Abort, framer: &mut Framer) {
-    assert!(rt; fed(framer, &[0; 19]) == Some(Seen::Bad));
-    assert!(rt; front(framer) == Seen::Bad);
-    assert!(rt; framer.is_waiting());
-    framer.clear();
-    assert!(rt; front(framer) == Seen::More);
-    assert!(rt; framer.rest_len() == 0);
-}
-
-#[test]
-fn a_fault_stays_until_it_is_cleared(rt: HostRuntime) -> Result<(), Fail> {
-    let mut framer = Framer::new(rt.alloc())?;
-    clear_a_fault(&rt, &mut framer);
     Ok(())
 }
 
@@ -160,16 +202,4 @@ fn octets_without_a_framer(rt: HostRuntime) {
             "{count} {at} {octet}"
         );
     }
-}
-
-// Calls each law once.
-#[test]
-fn each_law_holds_at_a_type() {
-    laws::splits_once();
-    laws::splits_in_pieces();
-    laws::splits_behind_a_frame();
-    laws::splits_into_nothing();
-    laws::rest_is();
-    laws::next_is_first();
-    laws::next_is_one();
 }

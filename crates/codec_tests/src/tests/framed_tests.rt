@@ -49,16 +49,6 @@ fn out(alloc: Global, octets: &[u8]) -> Result<Out, AllocError> {
     }
 }
 
-#[test]
-fn each_beginning_waits_for_more(rt: HostRuntime) -> Result<(), Fail> {
-    for len in 0..44usize {
-        let (front, _) = UPDATE.split_at(len);
-        assert!(rt; out(rt.alloc(), front)? == MORE, "{len}");
-    }
-    assert!(rt; out(rt.alloc(), &UPDATE)? == MESSAGE);
-    Ok(())
-}
-
 // For each octet of the UPDATE, what comes out if that octet is ff.
 static REPLACED: [Out; 44] = [
     // The Marker is all ones as it is.
@@ -126,9 +116,14 @@ fn replaced(at: usize) -> [u8; 44] {
 }
 
 #[test]
-fn each_octet_is_replaced(rt: HostRuntime) -> Result<(), Fail> {
+fn beginnings_wait_and_faults_come_out(rt: HostRuntime) -> Result<(), Fail> {
+    for len in 0..44usize {
+        let (front, _) = UPDATE.split_at(len);
+        assert!(rt; out(rt.alloc(), front)? == MORE, "{len} octets");
+    }
+    assert!(rt; out(rt.alloc(), &UPDATE)? == MESSAGE);
     for (at, want) in REPLACED.iter().enumerate() {
-        assert!(rt; out(rt.alloc(), &replaced(at))? == *want, "{at}");
+        assert!(rt; out(rt.alloc(), &replaced(at))? == *want, "octet {at}");
     }
     Ok(())
 }

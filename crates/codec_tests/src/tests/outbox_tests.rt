@@ -21,17 +21,24 @@ fn push_alive(outbox: &mut Outbox, epoch: u32) -> Result<(), AllocError> {
     Ok(())
 }
 
-// Appends so many KEEPALIVEs.
-fn push_several(outbox: &mut Outbox, epoch: u32, count: u32) -> Result<(), AllocError> {
-    for _ in 0..count {
-        push_alive(outbox, epoch)?;
-    }
-    Ok(())
-}
-
 fn push_control(outbox: &mut Outbox, control: Control) -> Result<(), AllocError> {
     outbox.reserve(0, 1)?;
     outbox.push_control(control);
+    Ok(())
+}
+
+// Appends the octets of a KEEPALIVE.
+fn push_octets(outbox: &mut Outbox, epoch: u32) -> Result<(), AllocError> {
+    outbox.reserve(19, 1)?;
+    outbox.push_octets(epoch, &ALIVE);
+    Ok(())
+}
+
+// Appends them in two parts.
+fn push_parts(outbox: &mut Outbox, epoch: u32) -> Result<(), AllocError> {
+    outbox.reserve(19, 1)?;
+    let (front, rest) = ALIVE.split_at(16);
+    outbox.push_parts(epoch, front, rest);
     Ok(())
 }
 
@@ -47,19 +54,116 @@ fn in_short(what: &Option<What>) -> Option<Short> {
 }
 
 // The next item in short, a piece being of so many octets at most.
-fn next_in_short(rt: &impl Abort, outbox: &Outbox, cut: usize) -> Option<Short> {
-    assert!(rt; 1 <= cut && cut <= 4096);
+fn next_in_short(outbox: &Outbox, cut: usize) -> Option<Short> {
+    if cut < 1 || cut > 4096 {
+        return None;
+    }
     match outbox.next_item(cut) {
         Ok(item) => in_short(&item),
         Err(_) => None,
     }
 }
 
-// Puts an item, which is this one.
-fn put(rt: &impl Abort, outbox: &mut Outbox, cut: usize, want: Short) {
-    assert!(rt; outbox.has_item());
-    assert!(rt; next_in_short(rt, outbox, cut) == Some(want));
-    outbox.item_put(cut);
+// What is appended, and what is put.
+enum Step {
+    // A KEEPALIVE of an incarnation.
+    Alive(u32),
+    // The octets of one.
+    Octets(u32),
+    // The octets of one, in two parts.
+    Parts(u32),
+    Control(Control),
+    // So many octets wait.
+    Waits(usize),
+    // So many items that are this one are put, in pieces of so many octets at most.
+    Puts(u32, usize, Short),
+    // This item is the next, in pieces of so many octets at most.
+    IsNext(usize, Short),
+    // So many items are put, in pieces of 18 octets at most, and all octets that were put are KEEPALIVEs, so
+    // many.
+    PutsAlive(u32, usize),
+    // Two KEEPALIVEs are appended and two items put, 40 times over.
+    Rounds,
+    // No item is left.
+    IsEmpty,
+}
+
+struct Case {
+    name: &'static str,
+    steps: &'static [Step],
+}
+
+#[rattlefmt::skip]
+static CASES: [Case; 7] = [
+    // A piece spans messages of one incarnation, and ends at a control item and at a new incarnation.
+    Case { name: "pieces span messages", steps: &[
+        Step::Alive(1),
+        Step::Alive(1),
+        Step::Control(Control::Dial(2)),
+        Step::Alive(2),
+        Step::Alive(3),
+        Step::Control(Control::Mark(3, 7)),
+        Step::Control(Control::Shut(3)),
+        Step::Waits(76),
+        Step::Puts(1, 30, (1, 30)),
+        Step::Puts(1, 30, (1, 8)),
+        Step::Puts(1, 30, (2, 0)),
+        Step::Puts(1, 30, (2, 19)),
+        Step::Puts(1, 30, (3, 19)),
+        Step::Puts(1, 30, (3, 0)),
+        Step::Puts(1, 30, (3, 0)),
+        Step::IsEmpty,
+        Step::Waits(0),
+    ] },
+    // Three messages of 19 octets in pieces of 1, 18 and 4096.
+    Case { name: "pieces of 1", steps: &[
+        Step::Alive(1), Step::Alive(1), Step::Alive(1),
+        Step::Puts(57, 1, (1, 1)),
+        Step::IsEmpty,
+    ] },
+    Case { name: "pieces of 18", steps: &[
+        Step::Alive(1), Step::Alive(1), Step::Alive(1),
+        Step::Puts(3, 18, (1, 18)),
+        Step::Puts(1, 18, (1, 3)),
+        Step::IsEmpty,
+    ] },
+    Case { name: "pieces of 4096", steps: &[
+        Step::Alive(1), Step::Alive(1), Step::Alive(1),
+        Step::Puts(1, 4096, (1, 57)),
+        Step::IsEmpty,
+    ] },
+    // What is put is what was appended, octet by octet, while the buffer is used again and again; the
+    // last two rounds' worth is put at the end.
+    Case { name: "octets come out as they went in", steps: &[
+        Step::Rounds,
+        Step::Waits(80),
+        Step::PutsAlive(5, 80),
+    ] },
+    // Octets that are appended join those of a message of the same incarnation.
+    Case { name: "octets join a message", steps: &[
+        Step::Alive(1),
+        Step::Octets(1),
+        Step::IsNext(4096, (1, 38)),
+        Step::PutsAlive(3, 2),
+        Step::IsEmpty,
+    ] },
+    Case { name: "parts join a message", steps: &[
+        Step::Alive(1),
+        Step::Parts(1),
+        Step::IsNext(4096, (1, 38)),
+        Step::PutsAlive(3, 2),
+        Step::IsEmpty,
+    ] },
+];
+
+fn puts(outbox: &mut Outbox, count: u32, cut: usize, want: Short) -> bool {
+    for _ in 0..count {
+        if !outbox.has_item() || next_in_short(outbox, cut) != Some(want) {
+            return false;
+        }
+        outbox.item_put(cut);
+    }
+    true
 }
 
 // Puts so many items, and appends the octets of their pieces.
@@ -73,57 +177,10 @@ fn put_some(outbox: &mut Outbox, items: u32, octets: &mut Vec<u8>) -> Result<(),
     Ok(())
 }
 
-fn push_words(outbox: &mut Outbox) -> Result<(), AllocError> {
-    push_several(outbox, 1, 2)?;
-    push_control(outbox, Control::Dial(2))?;
-    push_alive(outbox, 2)?;
-    push_alive(outbox, 3)?;
-    push_control(outbox, Control::Mark(3, 7))?;
-    push_control(outbox, Control::Shut(3))
-}
-
-static ITEMS: [Short; 7] = [(1, 30), (1, 8), (2, 0), (2, 19), (3, 19), (3, 0), (3, 0)];
-
-// A piece spans messages of one incarnation, and ends at a control item and at a new incarnation.
-#[test]
-fn pieces_span_messages(rt: HostRuntime) {
-    let mut outbox = Outbox::new(rt.alloc());
-    assert!(rt; push_words(&mut outbox).is_ok());
-    assert!(rt; outbox.octets_waiting() == 76);
-    for &item in &ITEMS {
-        put(&rt, &mut outbox, 30, item);
-    }
-    assert!(rt; !outbox.has_item());
-    assert!(rt; next_in_short(&rt, &outbox, 30) == None);
-    assert!(rt; outbox.octets_waiting() == 0);
-}
-
-// The octets of a piece, how many pieces there are, and the octets of the last.
-static CUTS: [(usize, u32, usize); 3] = [(1, 57, 1), (18, 4, 3), (4096, 1, 57)];
-
-// Puts all but the last piece, and then that.
-fn put_pieces(rt: &impl Abort, outbox: &mut Outbox, cut: usize, pieces: u32, last: usize) {
-    for _ in 1..pieces {
-        put(rt, outbox, cut, (1, cut));
-    }
-    put(rt, outbox, cut, (1, last));
-    assert!(rt; !outbox.has_item());
-}
-
-// Three messages of 19 octets in pieces of 1, 18 and 4096.
-#[test]
-fn messages_are_put_in_pieces_of_every_cut(rt: HostRuntime) {
-    for &(cut, pieces, last) in &CUTS {
-        let mut outbox = Outbox::new(rt.alloc());
-        assert!(rt; push_several(&mut outbox, 1, 3).is_ok());
-        put_pieces(&rt, &mut outbox, cut, pieces, last);
-    }
-}
-
-// Appends 38 octets and puts 36, 40 times over.
 fn put_in_rounds(outbox: &mut Outbox, octets: &mut Vec<u8>) -> Result<(), AllocError> {
     for _ in 0..40 {
-        push_several(outbox, 1, 2)?;
+        push_alive(outbox, 1)?;
+        push_alive(outbox, 1)?;
         put_some(outbox, 2, octets)?;
     }
     Ok(())
@@ -138,71 +195,37 @@ fn are_alive(octets: &[u8], count: usize) -> bool {
     octets.len() / 19 == count && octets.len() % 19 == 0
 }
 
-fn comes_out(rt: &impl Abort, outbox: &mut Outbox, octets: &mut Vec<u8>) {
-    assert!(rt; put_in_rounds(outbox, octets).is_ok());
-    assert!(rt; outbox.octets_waiting() == 80);
-    assert!(rt; put_some(outbox, 5, octets).is_ok());
-    assert!(rt; are_alive(octets.as_slice(), 80));
+// Whether a step is so; the octets are those of the pieces that were put.
+fn is_so(outbox: &mut Outbox, octets: &mut Vec<u8>, step: &Step) -> bool {
+    match step {
+        Step::Alive(epoch) => push_alive(outbox, *epoch).is_ok(),
+        Step::Octets(epoch) => push_octets(outbox, *epoch).is_ok(),
+        Step::Parts(epoch) => push_parts(outbox, *epoch).is_ok(),
+        Step::Control(control) => push_control(outbox, *control).is_ok(),
+        Step::Waits(count) => outbox.octets_waiting() == *count,
+        Step::Puts(count, cut, want) => puts(outbox, *count, *cut, *want),
+        Step::IsNext(cut, want) => next_in_short(outbox, *cut) == Some(*want),
+        Step::PutsAlive(items, count) => {
+            put_some(outbox, *items, octets).is_ok() && are_alive(octets.as_slice(), *count)
+        }
+        Step::Rounds => put_in_rounds(outbox, octets).is_ok(),
+        Step::IsEmpty => !outbox.has_item() && next_in_short(outbox, 30) == None,
+    }
 }
 
-// What is put is what was appended, octet by octet, while the buffer is used again and again; the
-// last two rounds' worth is put at the end.
+fn plays(rt: &impl Abort, outbox: &mut Outbox, octets: &mut Vec<u8>, case: &Case) {
+    for (i, step) in case.steps.iter().enumerate() {
+        assert!(rt; is_so(outbox, octets, step), "{}: step {i}", case.name);
+    }
+}
+
 #[test]
-fn octets_come_out_as_they_went_in(rt: HostRuntime) {
-    let mut outbox = Outbox::new(rt.alloc());
-    let mut octets = Vec::new(rt.alloc());
-    comes_out(&rt, &mut outbox, &mut octets);
-}
-
-// Appends a KEEPALIVE, and the octets of another.
-fn push_and_join(outbox: &mut Outbox) -> Result<(), AllocError> {
-    push_alive(outbox, 1)?;
-    outbox.reserve(19, 1)?;
-    outbox.push_octets(1, &ALIVE);
-    Ok(())
-}
-
-// Appends a KEEPALIVE, and the octets of another in two parts.
-fn push_and_join_parts(outbox: &mut Outbox) -> Result<(), AllocError> {
-    push_alive(outbox, 1)?;
-    outbox.reserve(19, 1)?;
-    let (front, rest) = ALIVE.split_at(16);
-    outbox.push_parts(1, front, rest);
-    Ok(())
-}
-
-// Two KEEPALIVEs wait, as one run of octets.
-fn are_joined(rt: &impl Abort, outbox: &mut Outbox, octets: &mut Vec<u8>) {
-    assert!(rt; next_in_short(rt, outbox, 4096) == Some((1, 38)));
-    assert!(rt; put_some(outbox, 3, octets).is_ok());
-    assert!(rt; octets.as_slice().get(19..) == Some(ALIVE.as_slice()));
-    assert!(rt; !outbox.has_item());
-}
-
-fn joins(rt: &impl Abort, outbox: &mut Outbox, octets: &mut Vec<u8>) {
-    assert!(rt; push_and_join(outbox).is_ok());
-    are_joined(rt, outbox, octets);
-}
-
-fn parts_join(rt: &impl Abort, outbox: &mut Outbox, octets: &mut Vec<u8>) {
-    assert!(rt; push_and_join_parts(outbox).is_ok());
-    are_joined(rt, outbox, octets);
-}
-
-// Octets that are appended join those of a message of the same incarnation.
-#[test]
-fn octets_join_a_message(rt: HostRuntime) {
-    let mut outbox = Outbox::new(rt.alloc());
-    let mut octets = Vec::new(rt.alloc());
-    joins(&rt, &mut outbox, &mut octets);
-}
-
-// Octets that are appended in two parts join those of a message of the same incarnation.
-#[test]
-fn parts_join_a_message(rt: HostRuntime) {
-    let mut outbox = Outbox::new(rt.alloc());
-    let mut octets = Vec::new(rt.alloc());
-    parts_join(&rt, &mut outbox, &mut octets);
+fn what_is_put_is_what_was_appended(rt: HostRuntime) {
+    for case in &CASES {
+        let mut outbox = Outbox::new(rt.alloc());
+        let mut octets = Vec::new(rt.alloc());
+        plays(&rt, &mut outbox, &mut octets, case);
+    }
 }
 
 static PIECES: [(usize, bool); 4] = [(0, false), (1, true), (4096, true), (4097, false)];

@@ -1,119 +1,120 @@
 //! Numbers of four octets (RFC 6793): what is read, its first fault, and what is written of it.
 
-use super::judging::{FirstFault, answers, framed};
-use bgp_codec::{Asn, Message, NOBODY, Rule, decode, encode, is_writable};
+use super::judging::{Case, framed, is_answered};
+use bgp_codec::{Message, Rule, decode, encode, is_writable};
 use bgp_framing::{Next, next_message};
 use bgp_values::Width;
 use std::alloc::Global;
-
-// A body of a type, read from a speaker that may be named by a reader that may be named, and its first
-// fault, or none.
-struct Case {
-    sentence: &'static str,
-    kind: u8,
-    peer: Option<Asn>,
-    own: Option<Asn>,
-    body: &'static [u8],
-    fault: Option<FirstFault>,
-}
-
-fn rule_of(case: &Case) -> Rule {
-    Rule {
-        width: Width::Four,
-        peer: case.peer,
-        own: case.own,
-    }
-}
-
-// Whether the frame of a case is answered as it is to be.
-fn is_answered(alloc: Global, case: &Case) -> bool {
-    answers(
-        alloc,
-        &framed(case.kind, case.body),
-        &rule_of(case),
-        case.fault,
-    )
-}
 
 // Bodies with their first faults. 70000 has the octets 00011170, AS_TRANS 5ba0.
 static FAULTS: [Case; 10] = [
     Case {
         sentence: "a field that is neither the peer's number nor AS_TRANS",
         kind: 1,
-        peer: Some(70_000),
-        own: Some(1),
+        rule: Rule {
+            width: Width::Four,
+            peer: Some(70_000),
+            own: Some(1),
+        },
         body: b"\x04\x11\x70\x00\x5a\x0a\x00\x00\x01\x08\x02\x06\x41\x04\x00\x01\x11\x70",
         fault: Some((2, 2, b"")),
     },
     Case {
         sentence: "another number than the peer's in the capability",
         kind: 1,
-        peer: Some(70_000),
-        own: None,
+        rule: Rule {
+            width: Width::Four,
+            peer: Some(70_000),
+            own: None,
+        },
         body: b"\x04\x5b\xa0\x00\x5a\x0a\x00\x00\x01\x08\x02\x06\x41\x04\x00\x01\x11\x71",
         fault: Some((2, 2, b"")),
     },
     Case {
         sentence: "another number in the first capability, the peer's in the second",
         kind: 1,
-        peer: Some(7),
-        own: None,
+        rule: Rule {
+            width: Width::Four,
+            peer: Some(7),
+            own: None,
+        },
         body: b"\x04\x00\x07\x00\x5a\x0a\x00\x00\x01\x10\x02\x06\x41\x04\x00\x00\x00\x08\x02\x06\x41\x04\x00\x00\x00\x07",
         fault: Some((2, 2, b"")),
     },
     Case {
         sentence: "AS_TRANS in the capability",
         kind: 1,
-        peer: Some(70_000),
-        own: Some(1),
+        rule: Rule {
+            width: Width::Four,
+            peer: Some(70_000),
+            own: Some(1),
+        },
         body: b"\x04\x5b\xa0\x00\x5a\x0a\x00\x00\x01\x08\x02\x06\x41\x04\x00\x00\x5b\xa0",
         fault: Some((2, 2, b"")),
     },
     Case {
         sentence: "no capability",
         kind: 1,
-        peer: Some(2),
-        own: Some(1),
+        rule: Rule {
+            width: Width::Four,
+            peer: Some(2),
+            own: Some(1),
+        },
         body: b"\x04\x00\x02\x00\x5a\x0a\x00\x00\x02\x00",
         fault: Some((2, 7, b"\x41\x04\x00\x00\x00\x01")),
     },
     Case {
         sentence: "a capability of three octets is none",
         kind: 1,
-        peer: Some(2),
-        own: Some(70_000),
+        rule: Rule {
+            width: Width::Four,
+            peer: Some(2),
+            own: Some(70_000),
+        },
         body: b"\x04\x00\x02\x00\x5a\x0a\x00\x00\x02\x07\x02\x05\x41\x03\x00\x00\x02",
         fault: Some((2, 7, b"\x41\x04\x00\x01\x11\x70")),
     },
     Case {
         sentence: "a bad hold time comes before the capability",
         kind: 1,
-        peer: Some(2),
-        own: Some(1),
+        rule: Rule {
+            width: Width::Four,
+            peer: Some(2),
+            own: Some(1),
+        },
         body: b"\x04\x00\x02\x00\x02\x0a\x00\x00\x02\x00",
         fault: Some((2, 6, b"")),
     },
     Case {
         sentence: "a path of another speaker",
         kind: 2,
-        peer: Some(4_464),
-        own: None,
+        rule: Rule {
+            width: Width::Four,
+            peer: Some(4_464),
+            own: None,
+        },
         body: b"\x00\x00\x00\x14\x40\x01\x01\x00\x40\x02\x06\x02\x01\x00\x01\x11\x70\x40\x03\x04\x0a\x00\x00\x01\x10\x0a\x01",
         fault: Some((3, 11, b"")),
     },
     Case {
         sentence: "a path whose numbers have two octets",
         kind: 2,
-        peer: None,
-        own: None,
+        rule: Rule {
+            width: Width::Four,
+            peer: None,
+            own: None,
+        },
         body: b"\x00\x00\x00\x12\x40\x01\x01\x00\x40\x02\x04\x02\x01\x00\x01\x40\x03\x04\x0a\x00\x00\x01\x10\x0a\x01",
         fault: Some((3, 11, b"")),
     },
     Case {
         sentence: "an AGGREGATOR of six octets",
         kind: 2,
-        peer: None,
-        own: None,
+        rule: Rule {
+            width: Width::Four,
+            peer: None,
+            own: None,
+        },
         body: b"\x00\x00\x00\x09\xc0\x07\x06\x11\x70\x0a\x00\x00\x01",
         fault: Some((3, 5, b"\xc0\x07\x06\x11\x70\x0a\x00\x00\x01")),
     },
@@ -124,66 +125,70 @@ static GOOD: [Case; 6] = [
     Case {
         sentence: "AS_TRANS, and the peer's number in the capability",
         kind: 1,
-        peer: Some(70_000),
-        own: Some(1),
+        rule: Rule {
+            width: Width::Four,
+            peer: Some(70_000),
+            own: Some(1),
+        },
         body: b"\x04\x5b\xa0\x00\x5a\x0a\x00\x00\x01\x08\x02\x06\x41\x04\x00\x01\x11\x70",
         fault: None,
     },
     Case {
         sentence: "the peer's number in the first capability, another in the second",
         kind: 1,
-        peer: Some(7),
-        own: None,
+        rule: Rule {
+            width: Width::Four,
+            peer: Some(7),
+            own: None,
+        },
         body: b"\x04\x00\x07\x00\x5a\x0a\x00\x00\x01\x10\x02\x06\x41\x04\x00\x00\x00\x07\x02\x06\x41\x04\x00\x00\x00\x08",
         fault: None,
     },
     Case {
         sentence: "no capability, and no reader that is named",
         kind: 1,
-        peer: Some(2),
-        own: None,
+        rule: Rule {
+            width: Width::Four,
+            peer: Some(2),
+            own: None,
+        },
         body: b"\x04\x00\x02\x00\x5a\x0a\x00\x00\x02\x00",
         fault: None,
     },
     Case {
         sentence: "a path of 70000",
         kind: 2,
-        peer: Some(70_000),
-        own: None,
+        rule: Rule {
+            width: Width::Four,
+            peer: Some(70_000),
+            own: None,
+        },
         body: b"\x00\x00\x00\x14\x40\x01\x01\x00\x40\x02\x06\x02\x01\x00\x01\x11\x70\x40\x03\x04\x0a\x00\x00\x01\x10\x0a\x01",
         fault: None,
     },
     Case {
         sentence: "an AGGREGATOR of eight octets",
         kind: 2,
-        peer: None,
-        own: None,
+        rule: Rule {
+            width: Width::Four,
+            peer: None,
+            own: None,
+        },
         body: b"\x00\x00\x00\x0b\xc0\x07\x08\x00\x01\x11\x70\x0a\x00\x00\x01",
         fault: None,
     },
     Case {
         sentence: "a path without numbers",
         kind: 2,
-        peer: None,
-        own: None,
+        rule: Rule {
+            width: Width::Four,
+            peer: None,
+            own: None,
+        },
         body: b"\x00\x00\x00\x0e\x40\x01\x01\x00\x40\x02\x00\x40\x03\x04\x0a\x00\x00\x01\x08\x0a",
         fault: None,
     },
 ];
-
-#[test]
-fn the_first_fault_is_answered_at_four_octets(rt: HostRuntime) {
-    for case in &FAULTS {
-        assert!(rt; is_answered(rt.alloc(), case), "{}", case.sentence);
-    }
-}
-
-#[test]
-fn good_messages_have_no_fault_at_four_octets(rt: HostRuntime) {
-    for case in &GOOD {
-        assert!(rt; is_answered(rt.alloc(), case), "{}", case.sentence);
-    }
-}
 
 // Whether a message is written as these octets.
 fn is_written_as(alloc: Global, message: &Message, rule: &Rule, wanted: &[u8]) -> bool {
@@ -207,14 +212,22 @@ fn is_written_again(alloc: Global, frame: &[u8], rule: &Rule) -> bool {
     }
 }
 
+#[test]
+fn the_first_fault_is_answered_at_four_octets(rt: HostRuntime) {
+    for case in &FAULTS {
+        assert!(rt; is_answered(rt.alloc(), case), "{}", case.sentence);
+    }
+}
+
 // What is read is written again in the same octets.
 #[test]
-fn what_is_read_is_written(rt: HostRuntime) {
+fn good_messages_have_no_fault_at_four_octets(rt: HostRuntime) {
     for case in &GOOD {
         let frame = framed(case.kind, case.body);
+        assert!(rt; is_answered(rt.alloc(), case), "{}", case.sentence);
         assert!(rt;
-            is_written_again(rt.alloc(), &frame, &rule_of(case)),
-            "{}",
+            is_written_again(rt.alloc(), &frame, &case.rule),
+            "{} is written again",
             case.sentence
         );
     }
