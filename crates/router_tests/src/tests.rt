@@ -1,4 +1,3 @@
-use bgp_values::Width;
 use ranked_policy::{Asn, NetBuilder, Network, Settings};
 use router_core::Router;
 use std::alloc::Global;
@@ -30,35 +29,25 @@ use steps::{Named, Step, plays_all, prefix};
 // Routers and networks are left, not dropped: each way out of a function that drops them is proved with the drop
 // of all that they hold.
 
-// Router 1 has identifier 10.0.0.1, router 2 has 10.0.0.2, and so on; a link joins 1 and each other.
-fn push_star(net: &mut NetBuilder, routers: u32) -> Result<(), Fail> {
-    for number in 1..=routers {
-        net.push_router(number, 0x0a00_0000 | number)?;
-    }
+fn push_origin(net: &mut NetBuilder, hub: Asn, named: Named) -> Result<(), Fail> {
+    Ok(net.push_origin(hub, prefix(named).ok_or("a prefix")?)?)
+}
+
+// The hub has identifier 10.0.0.1, router 2 has 10.0.0.2, and so on; a link joins the hub and each other. The hub is
+// the origin of 10.1.0.0/16, where it is not alone, and beside 3 of 10.0.0.0/8 too.
+fn push_star(net: &mut NetBuilder, hub: Asn, routers: u32) -> Result<(), Fail> {
+    net.push_router(hub, 0x0a00_0001)?;
     for number in 2..=routers {
-        net.push_link(1, number)?;
+        net.push_router(number, 0x0a00_0000 | number)?;
+        net.push_link(hub, number)?;
     }
-    Ok(())
-}
-
-fn push_origin(net: &mut NetBuilder, named: Named) -> Result<(), Fail> {
-    Ok(net.push_origin(1, prefix(named).ok_or("a prefix")?)?)
-}
-
-// Router 1 is the origin of 10.1.0.0/16, where it is not alone, and beside 3 of 10.0.0.0/8 too.
-fn push_origins(net: &mut NetBuilder, routers: u32) -> Result<(), Fail> {
     if routers == 3 {
-        push_origin(net, Named::Least)?;
+        push_origin(net, hub, Named::Least)?;
     }
     if routers > 1 {
-        push_origin(net, Named::Greatest)?;
+        push_origin(net, hub, Named::Greatest)?;
     }
     Ok(())
-}
-
-fn push_all(net: &mut NetBuilder, routers: u32) -> Result<(), Fail> {
-    push_star(net, routers)?;
-    push_origins(net, routers)
 }
 
 // What was built is the network, where all was pushed.
@@ -76,16 +65,16 @@ fn finished(net: NetBuilder, pushed: Result<(), Fail>) -> Result<Network, Fail> 
     }
 }
 
-fn star(alloc: Global, cut: usize, routers: u32) -> Result<Network, Fail> {
+fn star(alloc: Global, from: &Beginning) -> Result<Network, Fail> {
     let settings = Settings {
         hold: 90,
         restart: 0,
-        cut,
+        cut: from.cut,
         pipe: 64,
-        width: Width::Two,
+        width: from.width,
     };
     let mut net = NetBuilder::new(alloc, settings)?;
-    let pushed = push_all(&mut net, routers);
+    let pushed = push_star(&mut net, from.hub, from.routers);
     finished(net, pushed)
 }
 
@@ -96,50 +85,45 @@ fn router(alloc: Global, net: &Network, number: Asn) -> Result<Router<'_>, Fail>
     Ok(Router::new(alloc, net, number)?)
 }
 
+// A script, in parts, of the router of a beginning.
+struct Case {
+    name: &'static str,
+    from: Beginning,
+    script: &'static [&'static [Step<'static>]],
+}
+
 // The part of a script, and the place in it, of the first step that does not go as it says; the steps that come first
 // have to go.
 fn plays_behind(
     alloc: Global,
     router: &mut Router<'_>,
-    first: &[&[Step<'_>]],
-    script: &[&[Step<'_>]],
+    case: &Case,
 ) -> Result<Option<(usize, usize)>, Fail> {
-    if plays_all(alloc, router, first).is_some() {
+    if plays_all(alloc, router, case.from.first).is_some() {
         return Err("what comes before the script goes".into());
     }
-    Ok(plays_all(alloc, router, script))
+    Ok(plays_all(alloc, router, case.script))
 }
 
-fn plays_in(
-    alloc: Global,
-    net: &Network,
-    from: &Beginning,
-    script: &[&[Step<'_>]],
-) -> Result<Option<(usize, usize)>, Fail> {
-    let mut router = router(alloc, net, from.number)?;
-    let outcome = plays_behind(alloc, &mut router, from.first, script);
+fn plays_in(alloc: Global, net: &Network, case: &Case) -> Result<Option<(usize, usize)>, Fail> {
+    let mut router = router(alloc, net, case.from.number)?;
+    let outcome = plays_behind(alloc, &mut router, case);
     forget(router);
     outcome
 }
 
-fn plays_from(
-    alloc: Global,
-    from: &Beginning,
-    script: &[&[Step<'_>]],
-) -> Result<Option<(usize, usize)>, Fail> {
-    let net = star(alloc, from.cut, from.routers)?;
-    let outcome = plays_in(alloc, &net, from, script);
+fn plays_from(alloc: Global, case: &Case) -> Result<Option<(usize, usize)>, Fail> {
+    let net = star(alloc, &case.from)?;
+    let outcome = plays_in(alloc, &net, case);
     forget(net);
     outcome
 }
 
-// Each step of a script, in parts, goes as it says; a failure names the first that does not.
-fn asks(
-    rt: &impl Abort,
-    alloc: Global,
-    from: &Beginning,
-    script: &[&[Step<'_>]],
-) -> Result<(), Fail> {
-    assert_eq!(rt; plays_from(alloc, from, script)?, None);
+// Each step of each script goes as it says; a failure names the first that does not.
+fn asks(rt: &impl Abort, alloc: Global, cases: &[Case]) -> Result<(), Fail> {
+    for case in cases {
+        let stops = plays_from(alloc, case)?;
+        assert!(rt; stops == None, "{}: at {stops:?}", case.name);
+    }
     Ok(())
 }

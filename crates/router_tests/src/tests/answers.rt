@@ -14,28 +14,33 @@ pub(super) const NOTHING: Answer = Ok(Stepped::Nothing);
 
 pub(super) const MEMORY: Answer = Err(RouterError::Memory);
 
-pub(super) fn is_told(router: &mut Router<'_>, command: Command) -> Answer {
-    router.command(command)
+pub(super) fn does(router: &mut Router<'_>, call: &Call) -> Answer {
+    match call {
+        Call::Obey(command) => router.command(*command),
+        Call::Tick => router.tick(),
+        Call::Handle(peer) => router.handle(*peer),
+        Call::Decide => router.decide(),
+        Call::Advertise => router.advertise(),
+    }
 }
 
-pub(super) fn ticks(router: &mut Router<'_>) -> Answer {
-    router.tick()
-}
-
-pub(super) fn handles(router: &mut Router<'_>, peer: Asn) -> Answer {
-    router.handle(peer)
-}
-
-pub(super) fn decides(router: &mut Router<'_>) -> Answer {
-    router.decide()
-}
-
-pub(super) fn advertises(router: &mut Router<'_>) -> Answer {
-    router.advertise()
+// What a call answers if the caller has no room for the event.
+pub(super) fn does_without_room(router: &mut Router<'_>, call: &Call) -> Answer {
+    router.perform(call, Err(AllocError))
 }
 
 pub(super) fn takes_item(router: &mut Router<'_>, peer: Asn, item: &Item) -> Answer {
     router.take_item(peer, item)
+}
+
+// What an item is answered by a router whose caller has room for the event, or has none.
+pub(super) fn takes_with(
+    router: &mut Router<'_>,
+    peer: Asn,
+    item: &Item,
+    room: Result<(), AllocError>,
+) -> Answer {
+    router.take(peer, item, room)
 }
 
 pub(super) fn may_take(router: &Router<'_>, peer: Asn) -> bool {
@@ -59,51 +64,18 @@ pub(super) fn puts_next(router: &mut Router<'_>, peer: Asn) -> Result<Option<Ite
     Ok(Some(item))
 }
 
-// Whether nothing is left to put towards a peer.
-pub(super) fn is_drained(router: &Router<'_>, peer: Asn) -> bool {
+// Whether something is left to put towards a peer; no answer where that is refused.
+pub(super) fn waits(router: &Router<'_>, peer: Asn) -> Option<bool> {
     match router.next_item(peer) {
-        Ok(None) => true,
-        Ok(Some(_)) | Err(_) => false,
+        Ok(item) => Some(item.is_some()),
+        Err(_) => None,
     }
-}
-
-// Whether something is left to put towards a peer.
-pub(super) fn waits(router: &Router<'_>, peer: Asn) -> bool {
-    match router.next_item(peer) {
-        Ok(Some(_)) => true,
-        Ok(None) | Err(_) => false,
-    }
-}
-
-pub(super) fn does(router: &mut Router<'_>, call: &Call) -> Answer {
-    match call {
-        Call::Obey(command) => is_told(router, *command),
-        Call::Tick => ticks(router),
-        Call::Handle(peer) => handles(router, *peer),
-        Call::Decide => decides(router),
-        Call::Advertise => advertises(router),
-    }
-}
-
-// What a call answers if the caller has no room for the event.
-pub(super) fn does_without_room(router: &mut Router<'_>, call: &Call) -> Answer {
-    router.perform(call, Err(AllocError))
-}
-
-// What an item is answered by a router whose caller has room for the event, or has none.
-pub(super) fn takes_with(
-    router: &mut Router<'_>,
-    peer: Asn,
-    item: &Item,
-    room: Result<(), AllocError>,
-) -> Answer {
-    router.take(peer, item, room)
 }
 
 // Lets so many seconds pass.
 pub(super) fn seconds(router: &mut Router<'_>, n: u32) -> bool {
     for _ in 0..n {
-        if ticks(router) != DID {
+        if does(router, &Call::Tick) != DID {
             return false;
         }
     }
@@ -147,37 +119,20 @@ pub(super) fn takes_either_way(router: &mut Router<'_>, peer: Asn, item: &Item) 
         && has_stamp(router, answer, last, item.stamp)
 }
 
-// A call is answered so, and the stamp stays.
-pub(super) fn keeps_its_stamp(router: &mut Router<'_>, call: &Call, answer: Answer) -> bool {
-    let last = stamp(router);
-    does(router, call) == answer && stamp(router) == last
-}
-
-// Whether a call is answered so without room, and leaves the stamp.
-pub(super) fn keeps_its_stamp_without_room(
-    router: &mut Router<'_>,
-    call: &Call,
-    answer: Answer,
-) -> bool {
-    let last = stamp(router);
-    does_without_room(router, call) == answer && stamp(router) == last
-}
-
 // A prefix is originated, or withdrawn, and what then is kept is told.
 fn changes(router: &mut Router<'_>, command: Command) -> Answer {
-    is_told(router, command)?;
-    decides(router)?;
-    advertises(router)
+    does(router, &Call::Obey(command))?;
+    does(router, &Call::Decide)?;
+    does(router, &Call::Advertise)
 }
 
 // A prefix comes and goes until router 2 is told nothing more: whether that came to be.
 pub(super) fn fills(router: &mut Router<'_>, prefix: Prefix) -> bool {
     let blocked = Err(RouterError::Blocked { peer: 2 });
     for _ in 0..1000 {
-        if changes(router, Command::Originate(prefix)) == blocked {
-            return true;
-        }
-        if changes(router, Command::Withdraw(prefix)) == blocked {
+        if changes(router, Command::Originate(prefix)) == blocked
+            || changes(router, Command::Withdraw(prefix)) == blocked
+        {
             return true;
         }
     }

@@ -1,6 +1,6 @@
 //! Items that a peer puts, and those that come out.
 
-use super::answers::{Answer, DID, handles, puts_next, takes_with};
+use super::answers::{Answer, puts_next, takes_with};
 use ranked_policy::Asn;
 use router_core::{Item, PieceOctets, Router, What};
 use std::alloc::{AllocError, Global};
@@ -27,12 +27,6 @@ fn spelled(alloc: Global, tails: &[&[u8]]) -> Result<Vec<u8>, AllocError> {
     Ok(octets)
 }
 
-fn copied(alloc: Global, octets: &[u8]) -> Result<Vec<u8>, AllocError> {
-    let mut copy = Vec::new(alloc);
-    copy.extend_from_slice(octets)?;
-    Ok(copy)
-}
-
 // A piece of these octets, where there was memory for 1 to 4096 of them.
 fn piece(epoch: u32, octets: Result<Vec<u8>, AllocError>) -> Option<What> {
     match octets {
@@ -45,7 +39,7 @@ pub(super) fn what(alloc: Global, sent: &Sent<'_>) -> Option<What> {
     match *sent {
         Sent::Dial(epoch) => Some(What::Dial(epoch)),
         Sent::Says(epoch, tails) => piece(epoch, spelled(alloc, tails)),
-        Sent::Octets(epoch, octets) => piece(epoch, copied(alloc, octets)),
+        Sent::Octets(epoch, octets) => piece(epoch, Vec::from_slice(alloc, octets)),
         Sent::Mark(epoch, number) => Some(What::Mark(epoch, number)),
         Sent::Shut(epoch) => Some(What::Shut(epoch)),
     }
@@ -68,39 +62,36 @@ fn octets(what: &What) -> &[u8] {
     }
 }
 
-fn is_same(a: &What, b: &What) -> bool {
-    numbers(a) == numbers(b) && octets(a) == octets(b)
-}
-
 // Whether the item is that one.
 fn is_sent(alloc: Global, item: &Item, sent: &Sent<'_>) -> bool {
     match what(alloc, sent) {
-        Some(wanted) => is_same(&item.what, &wanted),
+        Some(wanted) => {
+            numbers(&item.what) == numbers(&wanted) && octets(&item.what) == octets(&wanted)
+        }
         None => false,
     }
 }
 
-// Whether the next item towards a peer is that one.
-pub(super) fn puts(alloc: Global, router: &mut Router<'_>, peer: Asn, sent: &Sent<'_>) -> bool {
-    match puts_next(router, peer) {
-        Ok(Some(item)) => is_sent(alloc, &item, sent),
-        Ok(None) | Err(_) => false,
-    }
+// What the next item towards a peer is to be.
+#[derive(Clone, Copy)]
+pub(super) enum Put<'a> {
+    // That one.
+    Item(Sent<'a>),
+    // One with that stamp.
+    At(u64),
+    // Octets of an incarnation.
+    Octets(u32),
 }
 
-// Whether the next item towards a peer has that stamp.
-pub(super) fn puts_at(router: &mut Router<'_>, peer: Asn, stamp: u64) -> bool {
-    match puts_next(router, peer) {
-        Ok(Some(item)) => item.stamp == stamp,
-        Ok(None) | Err(_) => false,
-    }
-}
-
-// Whether the next item towards a peer is octets of an incarnation.
-pub(super) fn puts_some(router: &mut Router<'_>, peer: Asn, epoch: u32) -> bool {
-    match puts_next(router, peer) {
-        Ok(Some(item)) => numbers(&item.what) == (1, epoch, 0),
-        Ok(None) | Err(_) => false,
+// Whether the next item towards a peer is so.
+pub(super) fn puts(alloc: Global, router: &mut Router<'_>, peer: Asn, wanted: &Put<'_>) -> bool {
+    let Ok(Some(item)) = puts_next(router, peer) else {
+        return false;
+    };
+    match wanted {
+        Put::Item(sent) => is_sent(alloc, &item, sent),
+        Put::At(stamp) => item.stamp == *stamp,
+        Put::Octets(epoch) => numbers(&item.what) == (1, *epoch, 0),
     }
 }
 
@@ -136,9 +127,4 @@ pub(super) fn takes(
         Some(item) => takes_with(router, peer, &item, room) == answer,
         None => false,
     }
-}
-
-// Whether the item of a peer is taken, and the message that it brings is handled.
-pub(super) fn hears(alloc: Global, router: &mut Router<'_>, peer: Asn, sent: &Sent<'_>) -> bool {
-    takes(alloc, router, peer, 0, sent, Ok(()), DID) && handles(router, peer) == DID
 }

@@ -23,40 +23,6 @@ pub(super) enum Offered {
     Loss(Asn, u32, Cause),
 }
 
-// The part that is offered.
-fn part<'a>(router: &'a Router<'_>) -> Option<&'a Part> {
-    match router.next_offer() {
-        Some(Offer::Part(part)) => Some(part),
-        Some(Offer::Lost(_)) | None => None,
-    }
-}
-
-fn offers_nothing(router: &Router<'_>) -> bool {
-    router.next_offer().is_none()
-}
-
-fn offers_part(router: &Router<'_>, number: u32) -> bool {
-    match part(router) {
-        Some(part) => part.router == 1 && part.number == number,
-        None => false,
-    }
-}
-
-fn offers_pending(router: &Router<'_>, pending: bool) -> bool {
-    match part(router) {
-        Some(part) => part.pending == pending,
-        None => false,
-    }
-}
-
-// Whether a part with this number is offered, and not pending.
-pub(super) fn offers_quiet_part(router: &Router<'_>, number: u32) -> bool {
-    match part(router) {
-        Some(part) => !part.pending && part.number == number,
-        None => false,
-    }
-}
-
 fn updates_of(channels: &[Channel], peer: Asn) -> Option<usize> {
     for channel in channels {
         if channel.peer == peer {
@@ -64,18 +30,6 @@ fn updates_of(channels: &[Channel], peer: Asn) -> Option<usize> {
         }
     }
     None
-}
-
-fn has_updates(part: &Part, of_two: usize, of_three: usize) -> bool {
-    let channels = part.channels.as_slice();
-    updates_of(channels, 2) == Some(of_two) && updates_of(channels, 3) == Some(of_three)
-}
-
-fn offers_updates(router: &Router<'_>, of_two: usize, of_three: usize) -> bool {
-    match part(router) {
-        Some(part) => has_updates(part, of_two, of_three),
-        None => false,
-    }
 }
 
 // Whether it keeps the path of router 1 alone for the prefix.
@@ -86,40 +40,48 @@ fn keeps_first(part: &Part, prefix: Prefix) -> bool {
     }
 }
 
-fn is_state(part: &Part, prefix: Prefix) -> bool {
+fn is_state(part: &Part, prefix: Option<Prefix>) -> bool {
+    let Some(prefix) = prefix else {
+        return false;
+    };
     let own = part.originated.as_slice() == [prefix].as_slice();
     own && keeps_first(part, prefix) && part.epoch(2) == 1 && part.epoch(3) == 1
 }
 
-fn offers_state(router: &Router<'_>, named: Named) -> bool {
-    match (part(router), prefix(named)) {
-        (Some(part), Some(prefix)) => is_state(part, prefix),
-        (None, _) | (_, None) => false,
+fn is_part(part: &Part, offered: &Offered) -> bool {
+    match offered {
+        Offered::Part(number) => part.router == 1 && part.number == *number,
+        Offered::Updates(of_two, of_three) => {
+            let channels = part.channels.as_slice();
+            updates_of(channels, 2) == Some(*of_two) && updates_of(channels, 3) == Some(*of_three)
+        }
+        Offered::Pending(pending) => part.pending == *pending,
+        Offered::State(named) => is_state(part, prefix(*named)),
+        Offered::Nothing | Offered::Loss(..) => false,
     }
 }
 
-fn offers_loss(router: &Router<'_>, peer: Asn, epoch: u32, cause: Cause) -> bool {
-    let wanted = Lost {
-        router: 1,
-        number: 1,
-        peer,
-        epoch,
-        cause,
-    };
-    match router.next_offer() {
-        Some(Offer::Lost(lost)) => *lost == wanted,
-        Some(Offer::Part(_)) | None => false,
+fn is_loss(lost: &Lost, offered: &Offered) -> bool {
+    match offered {
+        Offered::Loss(peer, epoch, cause) => {
+            *lost
+                == Lost {
+                    router: 1,
+                    number: 1,
+                    peer: *peer,
+                    epoch: *epoch,
+                    cause: *cause,
+                }
+        }
+        _ => false,
     }
 }
 
 pub(super) fn offers(router: &Router<'_>, offered: &Offered) -> bool {
-    match offered {
-        Offered::Nothing => offers_nothing(router),
-        Offered::Part(number) => offers_part(router, *number),
-        Offered::Updates(of_two, of_three) => offers_updates(router, *of_two, *of_three),
-        Offered::Pending(pending) => offers_pending(router, *pending),
-        Offered::State(named) => offers_state(router, *named),
-        Offered::Loss(peer, epoch, cause) => offers_loss(router, *peer, *epoch, *cause),
+    match router.next_offer() {
+        Some(Offer::Part(part)) => is_part(part, offered),
+        Some(Offer::Lost(lost)) => is_loss(lost, offered),
+        None => matches!(offered, Offered::Nothing),
     }
 }
 
@@ -127,7 +89,7 @@ pub(super) fn offers(router: &Router<'_>, offered: &Offered) -> bool {
 pub(super) fn records_now(router: &mut Router<'_>, prefix: Prefix) -> bool {
     match router.part_state() {
         Ok(part) => {
-            let is_state = is_state(&part, prefix) && !part.pending;
+            let is_state = is_state(&part, Some(prefix)) && !part.pending;
             forget(part);
             is_state
         }

@@ -14,10 +14,10 @@ use super::steps::{ALIVE, UPDATE_OF_TWO};
 use super::*;
 use router_core::RouterError;
 
-// A step is refused and changes nothing; any other answer is as it would be.
-#[test]
-fn steps_are_refused_for_want_of_room(rt: HostRuntime) -> Result<(), Fail> {
-    static SCRIPT: &[Step<'static>] = &[
+#[rattlefmt::skip]
+static CASES: [Case; 4] = [
+    // A step is refused and changes nothing; any other answer is as it would be.
+    Case { name: "steps are refused for want of room", from: FRESH, script: &[&[
         WithoutRoom(Tick, MEMORY),
         WithoutRoom(Handle(2), NOTHING),
         WithoutRoom(Handle(3), Err(RouterError::NoSuchPeer)),
@@ -34,13 +34,8 @@ fn steps_are_refused_for_want_of_room(rt: HostRuntime) -> Result<(), Fail> {
         WithoutRoom(Snapshot(0), Err(RouterError::OldSnapshot { last: 0 })),
         WithoutRoom(Restart, MEMORY),
         IsDrained(2),
-    ];
-    asks(&rt, rt.alloc(), &FRESH, &[SCRIPT])
-}
-
-#[test]
-fn with_room_they_are_done(rt: HostRuntime) -> Result<(), Fail> {
-    static SCRIPT: &[Step<'static>] = &[
+    ]] },
+    Case { name: "with room they are done", from: FRESH, script: &[&[
         EitherWay(Tick),
         EitherWay(Start(2)),
         EitherWay(Start(3)),
@@ -52,13 +47,8 @@ fn with_room_they_are_done(rt: HostRuntime) -> Result<(), Fail> {
         EitherWay(Snapshot(1)),
         EitherWay(Snapshot(1)),
         EitherWay(Restart),
-    ];
-    asks(&rt, rt.alloc(), &FRESH, &[SCRIPT])
-}
-
-#[test]
-fn items_are_refused_for_want_of_room(rt: HostRuntime) -> Result<(), Fail> {
-    static SCRIPT: &[Step<'static>] = &[
+    ]] },
+    Case { name: "items are refused for want of room", from: ESTABLISHED, script: &[&[
         TakesWithoutRoom(2, 0, Sent::Dial(2), MEMORY),
         TakesWithoutRoom(2, 0, Sent::Shut(1), MEMORY),
         TakesWithoutRoom(2, 0, Sent::Mark(1, 1), MEMORY),
@@ -73,14 +63,9 @@ fn items_are_refused_for_want_of_room(rt: HostRuntime) -> Result<(), Fail> {
         EitherWay(Handle(2)),
         EitherWay(Handle(2)),
         EitherWay(Handle(2)),
-    ];
-    asks(&rt, rt.alloc(), &ESTABLISHED, &[SCRIPT])
-}
-
-// What was not decided, or not told, waits.
-#[test]
-fn routes_wait_for_room(rt: HostRuntime) -> Result<(), Fail> {
-    static SCRIPT: &[Step<'static>] = &[
+    ]] },
+    // What was not decided, or not told, waits.
+    Case { name: "routes wait for room", from: ESTABLISHED, script: &[&[
         Does(Originate(Greatest), DID),
         WithoutRoom(Decide, MEMORY),
         Keeps(Greatest, &[]),
@@ -93,6 +78,10 @@ fn routes_wait_for_room(rt: HostRuntime) -> Result<(), Fail> {
         EitherWay(Advertise),
         Fills(Greatest),
         WithoutRoom(Advertise, Err(RouterError::Blocked { peer: 2 })),
-    ];
-    asks(&rt, rt.alloc(), &ESTABLISHED, &[SCRIPT])
+    ]] },
+];
+
+#[test]
+fn calls_without_room_are_answered(rt: HostRuntime) -> Result<(), Fail> {
+    asks(&rt, rt.alloc(), &CASES)
 }

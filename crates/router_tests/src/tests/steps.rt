@@ -2,7 +2,7 @@
 //! proved once; in a function of as many calls each goal has all that the calls before it ensure.
 
 use super::answers::*;
-use super::items::{Sent, drains, hears, puts, puts_at, puts_some, takes};
+use super::items::{Put, Sent, drains, puts, takes};
 use super::offers::{Offered, offers, records_now};
 use prefix_lanes::Prefix;
 use ranked_policy::Asn;
@@ -36,7 +36,6 @@ pub(super) enum Asked {
     Advertise,
 }
 
-#[derive(Clone, Copy)]
 pub(super) enum Step<'a> {
     // The call is answered so.
     Does(Asked, Answer),
@@ -116,10 +115,11 @@ enum Way {
 }
 
 fn goes_so(one: &mut Router<'_>, call: &Call, way: Way) -> bool {
+    let last = stamp(one);
     match way {
         Way::Does(answer) => does(one, call) == answer,
-        Way::Stays(answer) => keeps_its_stamp(one, call, answer),
-        Way::WithoutRoom(answer) => keeps_its_stamp_without_room(one, call, answer),
+        Way::Stays(answer) => does(one, call) == answer && stamp(one) == last,
+        Way::WithoutRoom(answer) => does_without_room(one, call) == answer && stamp(one) == last,
         Way::EitherWay => does_either_way(one, call),
     }
 }
@@ -131,30 +131,19 @@ fn asked_so(one: &mut Router<'_>, asked: Asked, way: Way) -> bool {
     }
 }
 
-fn fills_with(one: &mut Router<'_>, named: Named) -> bool {
-    match prefix(named) {
-        Some(prefix) => fills(one, prefix),
-        None => false,
+// Whether a step of a prefix goes as it says.
+fn goes_of(one: &mut Router<'_>, prefix: Prefix, step: &Step<'_>) -> bool {
+    match step {
+        Step::Fills(_) => fills(one, prefix),
+        Step::RecordsNow(_) => records_now(one, prefix),
+        Step::Keeps(_, path) => keeps(one, &prefix, path),
+        _ => false,
     }
 }
 
-fn would_record(one: &mut Router<'_>, named: Named) -> bool {
+fn goes_of_named(one: &mut Router<'_>, named: Named, step: &Step<'_>) -> bool {
     match prefix(named) {
-        Some(prefix) => records_now(one, prefix),
-        None => false,
-    }
-}
-
-fn has_path(one: &Router<'_>, named: Named, path: &[Asn]) -> bool {
-    match prefix(named) {
-        Some(prefix) => keeps(one, &prefix, path),
-        None => false,
-    }
-}
-
-fn is_idle(one: &Router<'_>, peer: Asn) -> bool {
-    match one.state(peer) {
-        Some(state) => state == State::Idle,
+        Some(prefix) => goes_of(one, prefix, step),
         None => false,
     }
 }
@@ -173,10 +162,10 @@ fn acted_on_nothing(alloc: Global, one: &Router<'_>, peer: Asn) -> bool {
 // Whether markers of this number are all that is put to 2 and 3.
 fn puts_marks(alloc: Global, one: &mut Router<'_>, number: u32) -> bool {
     let mark = Sent::Mark(1, number);
-    puts(alloc, one, 2, &mark)
-        && puts(alloc, one, 3, &mark)
-        && is_drained(one, 2)
-        && is_drained(one, 3)
+    puts(alloc, one, 2, &Put::Item(mark))
+        && puts(alloc, one, 3, &Put::Item(mark))
+        && waits(one, 2) == Some(false)
+        && waits(one, 3) == Some(false)
 }
 
 // Whether a step goes as it says.
@@ -189,23 +178,25 @@ fn goes(alloc: Global, one: &mut Router<'_>, step: &Step<'_>) -> bool {
         Step::Takes(peer, stamp, sent, answer) => {
             takes(alloc, one, *peer, *stamp, sent, Ok(()), *answer)
         }
-        Step::Hears(peer, sent) => hears(alloc, one, *peer, sent),
-        Step::Puts(peer, sent) => puts(alloc, one, *peer, sent),
-        Step::PutsAt(peer, stamp) => puts_at(one, *peer, *stamp),
-        Step::PutsSome(peer, epoch) => puts_some(one, *peer, *epoch),
+        Step::Hears(peer, sent) => {
+            takes(alloc, one, *peer, 0, sent, Ok(()), DID) && does(one, &Call::Handle(*peer)) == DID
+        }
+        Step::Puts(peer, sent) => puts(alloc, one, *peer, &Put::Item(*sent)),
+        Step::PutsAt(peer, stamp) => puts(alloc, one, *peer, &Put::At(*stamp)),
+        Step::PutsSome(peer, epoch) => puts(alloc, one, *peer, &Put::Octets(*epoch)),
         Step::PutsMarks(number) => puts_marks(alloc, one, *number),
         Step::TakesWithoutRoom(peer, stamp, sent, answer) => {
             takes(alloc, one, *peer, *stamp, sent, Err(AllocError), *answer)
         }
-        Step::Fills(named) => fills_with(one, *named),
         Step::Drains(peer) => drains(one, *peer),
-        Step::IsDrained(peer) => is_drained(one, *peer),
-        Step::Waits(peer) => waits(one, *peer),
+        Step::IsDrained(peer) => waits(one, *peer) == Some(false),
+        Step::Waits(peer) => waits(one, *peer) == Some(true),
         Step::Offers(offered) => offers(one, offered),
-        Step::RecordsNow(named) => would_record(one, *named),
-        Step::Keeps(named, path) => has_path(one, *named, path),
+        Step::Fills(named) | Step::RecordsNow(named) | Step::Keeps(named, _) => {
+            goes_of_named(one, *named, step)
+        }
         Step::Seconds(n) => seconds(one, *n),
-        Step::IsIdle(peer) => is_idle(one, *peer),
+        Step::IsIdle(peer) => one.state(*peer) == Some(State::Idle),
         Step::ActedOnNothing(peer) => acted_on_nothing(alloc, one, *peer),
     }
 }

@@ -17,41 +17,27 @@ const SAYS_ALIVE: &[Step<'static>] = &[
     Puts(2, Says(1, &[ALIVE])),
 ];
 
-#[test]
-fn a_keepalive_goes_out_in_time(rt: HostRuntime) -> Result<(), Fail> {
-    asks(&rt, rt.alloc(), &ESTABLISHED, &[SAYS_ALIVE])
-}
-
-// An UPDATE that is told sets the time again: 1 says KEEPALIVE a third of the hold time behind it (RFC 4271
-// section 8.2.2).
-#[test]
-fn an_update_puts_the_keepalive_off(rt: HostRuntime) -> Result<(), Fail> {
-    static SCRIPT: &[Step<'static>] = &[
+#[rattlefmt::skip]
+static CASES: [Case; 4] = [
+    Case { name: "a keepalive goes out in time", from: ESTABLISHED, script: &[SAYS_ALIVE] },
+    // An UPDATE that is told sets the time again: 1 says KEEPALIVE a third of the hold time behind it (RFC 4271
+    // section 8.2.2).
+    Case { name: "an update puts the keepalive off", from: ESTABLISHED, script: &[&[
         Does(Originate(Greatest), DID),
         Does(Decide, DID),
         Seconds(20),
         Does(Advertise, DID),
         Drains(2),
-    ];
-    asks(&rt, rt.alloc(), &ESTABLISHED, &[SCRIPT, SAYS_ALIVE])
-}
-
-// 90 seconds without a message: NOTIFICATION 4/0 behind two KEEPALIVEs, and the end of the incarnation.
-#[test]
-fn a_silent_peer_is_left(rt: HostRuntime) -> Result<(), Fail> {
-    static SCRIPT: &[Step<'static>] = &[
+    ], SAYS_ALIVE] },
+    // 90 seconds without a message: NOTIFICATION 4/0 behind two KEEPALIVEs, and the end of the incarnation.
+    Case { name: "a silent peer is left", from: ESTABLISHED, script: &[&[
         Seconds(90),
         Puts(2, Says(1, &[ALIVE, ALIVE, &[0x00, 0x15, 0x03, 0x04, 0x00]])),
         Puts(2, Shut(1)),
-    ];
-    asks(&rt, rt.alloc(), &ESTABLISHED, &[SCRIPT])
-}
-
-// A router that originates its prefix, keeps its path and dialled incarnation 1; after a restart it keeps and
-// originates nothing, and its next incarnation is 2.
-#[test]
-fn a_restart_forgets_routes_and_no_incarnation(rt: HostRuntime) -> Result<(), Fail> {
-    static SCRIPT: &[Step<'static>] = &[
+    ]] },
+    // A router that originates its prefix, keeps its path and dialled incarnation 1; after a restart it keeps and
+    // originates nothing, and its next incarnation is 2.
+    Case { name: "a restart forgets routes and no incarnation", from: FRESH, script: &[&[
         Does(Originate(Greatest), DID),
         Does(Decide, DID),
         Does(Start(2), DID),
@@ -63,6 +49,10 @@ fn a_restart_forgets_routes_and_no_incarnation(rt: HostRuntime) -> Result<(), Fa
         Puts(2, Shut(1)),
         Puts(2, Dial(2)),
         IsDrained(2),
-    ];
-    asks(&rt, rt.alloc(), &FRESH, &[SCRIPT])
+    ]] },
+];
+
+#[test]
+fn time_and_restarts_pass(rt: HostRuntime) -> Result<(), Fail> {
+    asks(&rt, rt.alloc(), &CASES)
 }
