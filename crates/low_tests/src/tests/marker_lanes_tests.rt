@@ -34,13 +34,6 @@ fn ones_with(octet: u8, at: usize) -> [u8; 100] {
 
 static FEW_ONES: [(&[u8], usize); 3] = [(&[], 0), (&[0xff; 17], 17), (&[0xff, 0xff, 0, 0xff], 2)];
 
-#[test]
-fn runs_of_ones_are_counted(rt: HostRuntime) {
-    for &(octets, want) in &FEW_ONES {
-        assert!(rt; ones_run(octets) == want);
-    }
-}
-
 // A run of this length, with one other octet at each place.
 fn ends_at_each_place(rt: &impl Abort, len: usize)
     requires { len ≤ 100 }
@@ -55,6 +48,9 @@ fn ends_at_each_place(rt: &impl Abort, len: usize)
 /// Each length 0 to 100, with one other octet at each place.
 #[test]
 fn a_run_ends_at_the_first_other_octet(rt: HostRuntime) {
+    for (i, (octets, want)) in FEW_ONES.iter().enumerate() {
+        assert!(rt; ones_run(octets) == *want, "row {i}");
+    }
     let whole = [0xff; 100];
     for len in 0..=100usize {
         assert!(rt; ones_run(&whole[..len]) == len);

@@ -2,10 +2,7 @@
 
 ghost use Rattle.std.specs.Prelude.{◌≤◌};
 
-use prefix_lanes::{
-    CAPACITY, CoverError, CoverTable, Prefix, a_prefix_is_its_bits, mask_all, masking_clears_bits,
-    the_longest_is_one,
-};
+use prefix_lanes::{CAPACITY, CoverError, CoverTable, Prefix, mask_all};
 use std::process::Abort;
 
 /// The mask of each length, as network masks are usually written.
@@ -35,13 +32,6 @@ fn is_same(one: (u32, u8), other: (u32, u8)) -> bool {
     }
 }
 
-fn comes_before(one: (u32, u8), other: (u32, u8)) -> bool {
-    match (Prefix::new(one.0, one.1), Prefix::new(other.0, other.1)) {
-        (Some(one), Some(other)) => one < other,
-        _ => false,
-    }
-}
-
 /// Each length keeps its first bits and clears the others.
 #[test]
 fn each_length_keeps_its_first_bits(rt: HostRuntime) {
@@ -57,51 +47,94 @@ fn each_length_keeps_its_first_bits(rt: HostRuntime) {
     assert!(rt; Prefix::new(u32::MAX, 255) == None);
 }
 
-/// 10.1.255.0/17 is 10.1.128.0/17.
-#[test]
-fn bits_past_the_length_are_cleared(rt: HostRuntime) {
-    assert!(rt; is_same((0x0a01_ff00, 17), (0x0a01_8000, 17)));
-    assert!(rt; !is_same((0x0a01_8000, 17), (0x0a01_8000, 18)));
-    assert!(rt; comes_before((0x0a00_0000, 16), (0x0a01_0000, 8 + 8)));
-    assert!(rt; comes_before((0x0a00_0000, 8), (0x0a00_0000, 16)));
+/// How two prefixes stand to each other.
+enum Relation {
+    Same(bool),
+    /// The first comes before the second.
+    ComesBefore,
+    /// Whether the first covers the second.
+    Covers(bool),
 }
 
-/// Two prefixes, and whether the first covers the second.
-struct Covering {
+/// Two prefixes, and how they stand to each other.
+struct Pair {
     name: &'static str,
     one: (u32, u8),
     other: (u32, u8),
-    covers: bool,
+    relation: Relation,
 }
 
 #[rattlefmt::skip]
-static COVERING: [Covering; 9] = [
-    Covering { name: "a longer one", one: (0x0a00_0000, 8), other: (0x0a01_0000, 16), covers: true },
-    Covering { name: "itself", one: (0x0a01_0000, 16), other: (0x0a01_0000, 16), covers: true },
-    Covering { name: "a shorter one", one: (0x0a01_0000, 16), other: (0x0a00_0000, 8), covers: false },
-    Covering { name: "one that begins otherwise", one: (0x0a00_0000, 8), other: (0x0b00_0000, 8), covers: false },
-    Covering { name: "one that differs in the last bit", one: (0x0a00_0000, 32), other: (0x0a00_0001, 32), covers: false },
-    Covering { name: "one that differs behind the bits", one: (0x0a00_0000, 31), other: (0x0a00_0001, 32), covers: true },
-    Covering { name: "one that differs in the eighth bit", one: (0x0a00_0000, 8), other: (0x0b00_0000, 16), covers: false },
-    Covering { name: "all, having no bits", one: (0, 0), other: (0xffff_ffff, 32), covers: true },
-    Covering { name: "none with bits by none", one: (0x8000_0000, 1), other: (0, 0), covers: false },
+static PAIRS: [Pair; 13] = [
+    Pair {
+        name: "bits past the length are cleared",
+        one: (0x0a01_ff00, 17),
+        other: (0x0a01_8000, 17),
+        relation: Relation::Same(true),
+    },
+    Pair { name: "another length", one: (0x0a01_8000, 17), other: (0x0a01_8000, 18), relation: Relation::Same(false) },
+    Pair {
+        name: "the lesser address first",
+        one: (0x0a00_0000, 16),
+        other: (0x0a01_0000, 8 + 8),
+        relation: Relation::ComesBefore,
+    },
+    Pair {
+        name: "then the lesser length",
+        one: (0x0a00_0000, 8),
+        other: (0x0a00_0000, 16),
+        relation: Relation::ComesBefore,
+    },
+    // What a prefix covers.
+    Pair { name: "a longer one", one: (0x0a00_0000, 8), other: (0x0a01_0000, 16), relation: Relation::Covers(true) },
+    Pair { name: "itself", one: (0x0a01_0000, 16), other: (0x0a01_0000, 16), relation: Relation::Covers(true) },
+    Pair { name: "a shorter one", one: (0x0a01_0000, 16), other: (0x0a00_0000, 8), relation: Relation::Covers(false) },
+    Pair {
+        name: "one that begins otherwise",
+        one: (0x0a00_0000, 8),
+        other: (0x0b00_0000, 8),
+        relation: Relation::Covers(false),
+    },
+    Pair {
+        name: "one that differs in the last bit",
+        one: (0x0a00_0000, 32),
+        other: (0x0a00_0001, 32),
+        relation: Relation::Covers(false),
+    },
+    Pair {
+        name: "one that differs behind the bits",
+        one: (0x0a00_0000, 31),
+        other: (0x0a00_0001, 32),
+        relation: Relation::Covers(true),
+    },
+    Pair {
+        name: "one that differs in the eighth bit",
+        one: (0x0a00_0000, 8),
+        other: (0x0b00_0000, 16),
+        relation: Relation::Covers(false),
+    },
+    Pair { name: "all, having no bits", one: (0, 0), other: (0xffff_ffff, 32), relation: Relation::Covers(true) },
+    Pair { name: "none with bits by none", one: (0x8000_0000, 1), other: (0, 0), relation: Relation::Covers(false) },
 ];
 
-fn covers(one: (u32, u8), other: (u32, u8)) -> Option<bool> {
-    match (Prefix::new(one.0, one.1), Prefix::new(other.0, other.1)) {
-        (Some(one), Some(other)) => Some(one.covers(&other)),
-        _ => None,
+fn stand_so(pair: &Pair) -> bool {
+    match (
+        Prefix::new(pair.one.0, pair.one.1),
+        Prefix::new(pair.other.0, pair.other.1),
+    ) {
+        (Some(one), Some(other)) => match pair.relation {
+            Relation::Same(are) => (one == other) == are,
+            Relation::ComesBefore => one < other,
+            Relation::Covers(does) => one.covers(&other) == does,
+        },
+        _ => false,
     }
 }
 
 #[test]
-fn a_prefix_covers_those_inside_it(rt: HostRuntime) {
-    for row in &COVERING {
-        assert!(rt;
-            covers(row.one, row.other) == Some(row.covers),
-            "{}",
-            row.name
-        );
+fn prefixes_stand_to_each_other(rt: HostRuntime) {
+    for pair in &PAIRS {
+        assert!(rt; stand_so(pair), "{}", pair.name);
     }
 }
 
@@ -178,6 +211,55 @@ fn masks_of_each_count_are_made(rt: HostRuntime) {
     }
 }
 
+/// What is done to a table, or asked of it.
+enum Step {
+    /// It takes the prefix of this address and length.
+    Takes(u32, u8),
+    /// It takes 0.0.0.0/24, 0.0.1.0/24 and so on, so many.
+    TakesMany(u32),
+    /// It refuses the prefix, since it is full.
+    IsFullFor(u32, u8),
+    /// It finds this place for the prefix.
+    Finds(u32, u8, Option<usize>),
+    Has(usize),
+}
+
+struct Case {
+    name: &'static str,
+    steps: &'static [Step],
+}
+
+/// The longest that covers, the first among equals. 64 entries fit; a further one is refused and changes nothing.
+#[rattlefmt::skip]
+static CASES: [Case; 4] = [
+    Case { name: "two entries", steps: &[
+        Step::Takes(0x0a00_0000, 8),
+        Step::Takes(0x0a01_0000, 16),
+        Step::Has(2),
+        Step::Finds(0x0a01_0200, 24, Some(1)),
+        Step::Finds(0x0a02_0000, 16, Some(0)),
+        Step::Finds(0x0a00_0000, 7, None),
+        Step::Finds(0x0b00_0000, 8, None),
+    ] },
+    Case { name: "equal entries", steps: &[
+        Step::Takes(0, 0),
+        Step::Takes(0x0a01_0000, 16),
+        Step::Takes(0x0a00_0000, 8),
+        Step::Takes(0x0a01_0000, 16),
+        Step::Takes(0x0a02_0000, 16),
+        Step::Finds(0x0a01_0000, 16, Some(1)),
+        Step::Finds(0x0b00_0000, 8, Some(0)),
+    ] },
+    Case { name: "no entry", steps: &[Step::Finds(0, 0, None)] },
+    Case { name: "an entry past the 64th is refused", steps: &[
+        Step::TakesMany(64),
+        Step::IsFullFor(0, 0),
+        Step::Has(CAPACITY),
+        Step::Finds(63 << 8, 32, Some(63)),
+        Step::Finds(64 << 8, 24, None),
+    ] },
+];
+
 // Whether the table took the prefix.
 fn takes(table: &mut CoverTable, addr: u32, len: u8) -> bool {
     match Prefix::new(addr, len) {
@@ -186,63 +268,50 @@ fn takes(table: &mut CoverTable, addr: u32, len: u8) -> bool {
     }
 }
 
-// Whether the table took all of them.
-fn takes_all(table: &mut CoverTable, entries: &[(u32, u8)]) -> bool {
-    for &(addr, len) in entries {
-        if !takes(table, addr, len) {
+fn takes_many(table: &mut CoverTable, count: u32) -> bool {
+    for i in 0..count {
+        if !takes(table, i << 8, 24) {
             return false;
         }
     }
     true
 }
 
-// Whether the table finds this place for the prefix of this address and length.
-fn finds(table: &CoverTable, addr: u32, len: u8, want: Option<usize>) -> bool {
-    match Prefix::new(addr, len) {
-        Some(prefix) => table.longest(&prefix) == want,
-        None => false,
+// Whether a step of a prefix is so.
+fn is_so_of(table: &mut CoverTable, prefix: Prefix, step: &Step) -> bool {
+    match step {
+        Step::Takes(..) => table.push(prefix) == Ok(()),
+        Step::IsFullFor(..) => table.push(prefix) == Err(CoverError::TableFull),
+        Step::Finds(_, _, want) => table.longest(&prefix) == *want,
+        _ => false,
     }
 }
 
-/// What is asked of a table, and the place that it is to find.
-type Asked = (u32, u8, Option<usize>);
-
-fn finds_all(rt: &impl Abort, table: &CoverTable, asked: &[Asked]) {
-    for &(addr, len, want) in asked {
-        assert!(rt; finds(table, addr, len, want), "{addr:x}/{len}");
+fn is_so(table: &mut CoverTable, step: &Step) -> bool {
+    match step {
+        Step::Takes(addr, len) | Step::IsFullFor(addr, len) | Step::Finds(addr, len, _) => {
+            match Prefix::new(*addr, *len) {
+                Some(prefix) => is_so_of(table, prefix, step),
+                None => false,
+            }
+        }
+        Step::TakesMany(count) => takes_many(table, *count),
+        Step::Has(count) => table.as_slice().len() == *count,
     }
 }
 
-static TWO: [(u32, u8); 2] = [(0x0a00_0000, 8), (0x0a01_0000, 16)];
+fn all_are_so(rt: &impl Abort, table: &mut CoverTable, case: &Case) {
+    for (i, step) in case.steps.iter().enumerate() {
+        assert!(rt; is_so(table, step), "{}: step {i}", case.name);
+    }
+}
 
-static ASKED_OF_TWO: [Asked; 4] = [
-    (0x0a01_0200, 24, Some(1)),
-    (0x0a02_0000, 16, Some(0)),
-    (0x0a00_0000, 7, None),
-    (0x0b00_0000, 8, None),
-];
-
-static SAME: [(u32, u8); 5] = [
-    (0, 0),
-    (0x0a01_0000, 16),
-    (0x0a00_0000, 8),
-    (0x0a01_0000, 16),
-    (0x0a02_0000, 16),
-];
-
-static ASKED_OF_SAME: [Asked; 2] = [(0x0a01_0000, 16, Some(1)), (0x0b00_0000, 8, Some(0))];
-
-/// The longest that covers, the first among equals.
 #[test]
-fn the_longest_that_covers_is_found(rt: HostRuntime) {
-    let mut two = CoverTable::new(rt.alloc());
-    assert!(rt; takes_all(&mut two, &TWO));
-    assert!(rt; two.as_slice().len() == 2);
-    finds_all(&rt, &two, &ASKED_OF_TWO);
-    let mut same = CoverTable::new(rt.alloc());
-    assert!(rt; takes_all(&mut same, &SAME));
-    finds_all(&rt, &same, &ASKED_OF_SAME);
-    assert!(rt; finds(&CoverTable::new(rt.alloc()), 0, 0, None));
+fn tables_find_the_longest_that_covers(rt: HostRuntime) {
+    for case in &CASES {
+        let mut table = CoverTable::new(rt.alloc());
+        all_are_so(&rt, &mut table, case);
+    }
 }
 
 // One entry at a time.
@@ -295,32 +364,4 @@ fn the_longest_of_each_count_is_found(rt: HostRuntime) {
         assert!(rt; takes(&mut table, addr, len), "at {i}");
         answers_alike(&rt, &table);
     }
-}
-
-// What one more prefix is refused with.
-fn refuses(table: &mut CoverTable, addr: u32, len: u8) -> Option<CoverError> {
-    match Prefix::new(addr, len) {
-        Some(prefix) => table.push(prefix).err(),
-        None => None,
-    }
-}
-
-/// 64 entries fit; a further one is refused and changes nothing.
-#[test]
-fn an_entry_past_the_64th_is_refused(rt: HostRuntime) {
-    let mut table = CoverTable::new(rt.alloc());
-    for i in 0..64u32 {
-        assert!(rt; takes(&mut table, i << 8, 24), "at {i}");
-    }
-    assert!(rt; refuses(&mut table, 0, 0) == Some(CoverError::TableFull));
-    assert!(rt; table.as_slice().len() == CAPACITY);
-    assert!(rt; finds(&table, 63 << 8, 32, Some(63)));
-    assert!(rt; finds(&table, 64 << 8, 24, None));
-}
-
-#[test]
-fn each_law_holds_at_a_type() {
-    a_prefix_is_its_bits();
-    masking_clears_bits();
-    the_longest_is_one();
 }

@@ -12,12 +12,7 @@ use session_fsm::FsmEvent::{
     NotifMsgVerErr, TcpConnectionConfirmed, TcpConnectionFails, TcpCrAcked, UpdateMsg,
     UpdateMsgErr,
 };
-use session_fsm::{
-    Action, Actions, FsmEvent, Session, SessionConfig, State, each_timer_runs_in_its_states,
-    hold_time_zero_never_expires, hold_timer_expires_after_silence, leaving_for_idle_hangs_up,
-    nothing_is_acted_on_after_a_close, restart_waits_for_a_start,
-    timers_run_out_in_their_last_second, up_and_down_take_turns, updates_act_in_established_alone,
-};
+use session_fsm::{Action, Actions, FsmEvent, Session, SessionConfig, State};
 use std::process::Abort;
 
 mod pairs;
@@ -49,17 +44,4 @@ fn stay_quiet(rt: &impl Abort, session: &mut Session, ticks: usize, name: &str) 
     for tick in 0..ticks {
         assert!(rt; session.tick() == None, "{name}, in tick {tick}");
     }
-}
-
-#[test]
-fn each_law_holds_at_a_type() {
-    updates_act_in_established_alone();
-    up_and_down_take_turns();
-    nothing_is_acted_on_after_a_close();
-    leaving_for_idle_hangs_up();
-    hold_time_zero_never_expires();
-    hold_timer_expires_after_silence();
-    restart_waits_for_a_start();
-    each_timer_runs_in_its_states();
-    timers_run_out_in_their_last_second();
 }

@@ -7,7 +7,7 @@ ghost use Rattle.low_tests.specs.Speakers.{LinkedCounterStep, Speaker, SpeakerSt
 use run_model::*;
 
 /// Routers that add up what they take, and send their totals to those that they are linked with.
-struct Counters;
+pub(crate) struct Counters;
 
 impl Routers for Counters {
     ghost Setting = { ℕ → ℕ → Bool };
@@ -41,7 +41,7 @@ impl Routers for Speakers {
 }
 
 /// Lines of journals as pairs of stamp and router.
-struct Pairs;
+pub(crate) struct Pairs;
 
 impl JournalLines for Pairs {
     ghost Line = { ℕ × ℕ };
@@ -52,7 +52,7 @@ impl JournalLines for Pairs {
 }
 
 /// Pairs with a number beside them, of which they are the lines.
-struct Numbered;
+pub(crate) struct Numbered;
 
 impl WholeLines for Numbered {
     ghost Whole = { (ℕ × ℕ) × ℕ };
@@ -123,31 +123,6 @@ fn offers_are_collected_in_order()
     ensures collected { NotWhateverIsCollected }
     ensures inside { NotAllOffersStand }
 {}
-
-#[test]
-fn each_law_of_orders_holds_at_a_type() {
-    causal_orders_are_runs::<Counters>();
-    causal_orders_end_alike::<Counters>();
-    stamps_change_no_item::<Counters>();
-    runs_are_causal_orders::<Counters>();
-    takes_have_their_puts::<Counters>();
-    stamps_give_causal_orders::<Counters>();
-    stamps_give_the_collectors_order::<Counters>();
-    threads_are_a_run::<Counters>();
-    steps_are_takes_in_order::<Counters>();
-    puts_come_earlier::<Counters>();
-    runs_have_their_cuts::<Counters>();
-    runs_pass_through_cuts::<Counters>();
-    offers_stand::<Counters>();
-    parts_are_as_long::<Counters>();
-    sorting_by_stamp_gathers::<Pairs>();
-    sorting_by_stamp_then_router_gathers::<Pairs>();
-    journals_can_be_gathered::<Pairs>();
-    gathered_stamps_rise::<Pairs>();
-    gathered_is_one::<Pairs>();
-    gathering_lifts::<Numbered>();
-    gathered_events_are_stamped::<Counters>();
-}
 
 #[test]
 fn examples_and_wrong_twins_hold() {

@@ -139,15 +139,11 @@ fn each_pair_of_state_and_event_is_obeyed(rt: HostRuntime) {
     }
 }
 
-fn has_pair(row: &Row, state: State, event: FsmEvent) -> bool {
-    row.state == state && row.events.contains(&event)
-}
-
 /// How many rows have this pair.
 fn rows_of(state: State, event: FsmEvent) -> usize {
     let mut count = 0usize;
     for row in &ROWS {
-        if has_pair(row, state, event) {
+        if row.state == state && row.events.contains(&event) {
             count = count.saturating_add(1);
         }
     }

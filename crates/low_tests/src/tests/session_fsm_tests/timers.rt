@@ -2,168 +2,161 @@
 
 use super::*;
 
-/// A step of a run: an event and what it asks for, ticks in which no timer runs out, or a tick in
-/// which this one does.
+/// A step of a run.
 enum Step {
+    /// An event, and what it asks for.
     On(FsmEvent, &'static [Action]),
+    /// These events, whatever they ask for.
+    Given(&'static [FsmEvent]),
+    /// Ticks in which no timer runs out.
     Quiet(usize),
+    /// A tick in which this timer runs out.
     Out(FsmEvent),
+    /// An UPDATE is sent, in Established.
+    Update,
+    /// Eight seconds, of which every second one ends with an UPDATE that is sent.
+    Updates,
+    IsIdle,
 }
 
-/// Hold time 90 against 30: a KEEPALIVE every 10 seconds, and in the 40th second, the 30th without
-/// word of the peer, the HoldTimer alone.
-static A_LIFE: [Step; 17] = [
-    Step::On(ManualStart, &[Dial]),
-    Step::On(TcpCrAcked, &[SendOpen]),
-    Step::On(BgpOpen { hold: 30 }, &[SendAlive]),
-    Step::Quiet(9),
-    Step::Out(KeepaliveTimerExpires),
-    Step::On(KeepaliveTimerExpires, &[SendAlive]),
-    Step::On(KeepAliveMsg, &[Up]),
-    Step::Quiet(9),
-    Step::Out(KeepaliveTimerExpires),
-    Step::On(KeepaliveTimerExpires, &[SendAlive]),
-    Step::Quiet(9),
-    Step::Out(KeepaliveTimerExpires),
-    Step::On(KeepaliveTimerExpires, &[SendAlive]),
-    Step::Quiet(9),
-    Step::Out(HoldTimerExpires),
-    Step::On(HoldTimerExpires, &[SendNotice(4), Down, HangUp]),
-    Step::Quiet(1000),
-];
+/// What a session meets from its start.
+struct Case {
+    name: &'static str,
+    config: SessionConfig,
+    steps: &'static [Step],
+}
 
-/// The settings that it was made with, whatever was agreed.
-const A_CONFIG: SessionConfig = SessionConfig {
+const RESTARTED: SessionConfig = SessionConfig {
     hold: 90,
-    restart: 0,
+    restart: 5,
 };
 
-fn asks(rt: &impl Abort, session: &mut Session, event: FsmEvent, actions: &[Action]) {
-    assert!(rt; give(rt, session, event).as_slice() == actions);
-}
+const NO_HOLD_TIME: SessionConfig = SessionConfig {
+    hold: 0,
+    restart: 5,
+};
 
-fn take(rt: &impl Abort, session: &mut Session, step: &Step) {
-    match step {
-        Step::On(event, actions) => asks(rt, session, *event, actions),
-        Step::Quiet(ticks) => stay_quiet(rt, session, *ticks, "before a timer runs out"),
-        Step::Out(event) => assert!(rt; session.tick() == Some(*event)),
-    }
-}
-
-#[test]
-fn keepalive_and_hold(rt: HostRuntime) {
-    let mut session = session(90, 0);
-    for step in &A_LIFE {
-        take(&rt, &mut session, step);
-    }
-    assert!(rt; session.config() == A_CONFIG);
-}
-
-/// A new session that these events happen to, and the timer that runs out in this tick.
-struct LastTick {
-    name: &'static str,
-    events: &'static [FsmEvent],
-    tick: usize,
-    event: FsmEvent,
-}
+const UP: &[FsmEvent] = &[ManualStart, TcpCrAcked, BgpOpen { hold: 30 }, KeepAliveMsg];
 
 #[rattlefmt::skip]
-static LAST_TICKS: [LastTick; 7] = [
-    LastTick { name: "a dial", events: &[ManualStart], tick: 120, event: ConnectRetryTimerExpires },
-    LastTick { name: "a dial again", events: &[ManualStart, ConnectRetryTimerExpires], tick: 120, event: ConnectRetryTimerExpires },
-    LastTick { name: "a lost connection", events: &[ManualStart, TcpCrAcked, TcpConnectionFails], tick: 120, event: ConnectRetryTimerExpires },
-    LastTick { name: "no OPEN", events: &[ManualStart, TcpConnectionConfirmed], tick: 240, event: HoldTimerExpires },
-    LastTick { name: "a third of the hold time", events: &[ManualStart, TcpCrAcked, BgpOpen { hold: 11 }], tick: 3, event: KeepaliveTimerExpires },
-    LastTick { name: "the least hold time", events: &[ManualStart, TcpCrAcked, BgpOpen { hold: 3 }, KeepAliveMsg], tick: 1, event: KeepaliveTimerExpires },
-    LastTick { name: "a restart", events: &[ManualStart, TcpCrAcked, BgpOpen { hold: 30 }, KeepAliveMsg, TcpConnectionFails], tick: 5, event: AutomaticStart },
+static CASES: [Case; 15] = [
+    // Hold time 90 against 30: a KEEPALIVE every 10 seconds, and in the 40th second, the 30th without
+    // word of the peer, the HoldTimer alone.
+    Case { name: "a life", config: SessionConfig { hold: 90, restart: 0 }, steps: &[
+        Step::On(ManualStart, &[Dial]),
+        Step::On(TcpCrAcked, &[SendOpen]),
+        Step::On(BgpOpen { hold: 30 }, &[SendAlive]),
+        Step::Quiet(9),
+        Step::Out(KeepaliveTimerExpires),
+        Step::On(KeepaliveTimerExpires, &[SendAlive]),
+        Step::On(KeepAliveMsg, &[Up]),
+        Step::Quiet(9),
+        Step::Out(KeepaliveTimerExpires),
+        Step::On(KeepaliveTimerExpires, &[SendAlive]),
+        Step::Quiet(9),
+        Step::Out(KeepaliveTimerExpires),
+        Step::On(KeepaliveTimerExpires, &[SendAlive]),
+        Step::Quiet(9),
+        Step::Out(HoldTimerExpires),
+        Step::On(HoldTimerExpires, &[SendNotice(4), Down, HangUp]),
+        Step::Quiet(1000),
+    ] },
+    // Each timer runs out in the last of its ticks, and in none before.
+    Case { name: "a dial", config: RESTARTED, steps: &[
+        Step::Given(&[ManualStart]), Step::Quiet(119), Step::Out(ConnectRetryTimerExpires),
+    ] },
+    Case { name: "a dial again", config: RESTARTED, steps: &[
+        Step::Given(&[ManualStart, ConnectRetryTimerExpires]), Step::Quiet(119), Step::Out(ConnectRetryTimerExpires),
+    ] },
+    Case { name: "a lost connection", config: RESTARTED, steps: &[
+        Step::Given(&[ManualStart, TcpCrAcked, TcpConnectionFails]), Step::Quiet(119),
+        Step::Out(ConnectRetryTimerExpires),
+    ] },
+    Case { name: "no OPEN", config: RESTARTED, steps: &[
+        Step::Given(&[ManualStart, TcpConnectionConfirmed]), Step::Quiet(239), Step::Out(HoldTimerExpires),
+    ] },
+    Case { name: "a third of the hold time", config: RESTARTED, steps: &[
+        Step::Given(&[ManualStart, TcpCrAcked, BgpOpen { hold: 11 }]), Step::Quiet(2), Step::Out(KeepaliveTimerExpires),
+    ] },
+    Case { name: "the least hold time", config: RESTARTED, steps: &[
+        Step::Given(&[ManualStart, TcpCrAcked, BgpOpen { hold: 3 }, KeepAliveMsg]), Step::Quiet(0),
+        Step::Out(KeepaliveTimerExpires),
+    ] },
+    Case { name: "a restart", config: RESTARTED, steps: &[
+        Step::Given(UP), Step::Given(&[TcpConnectionFails]), Step::Quiet(4), Step::Out(AutomaticStart),
+    ] },
+    // Hold time 0 on either side: nothing runs out from OpenConfirm on.
+    Case { name: "no hold time on both sides", config: NO_HOLD_TIME, steps: &[
+        Step::Given(&[ManualStart, TcpCrAcked, BgpOpen { hold: 0 }]), Step::Quiet(1000),
+        Step::Given(&[KeepAliveMsg, UpdateMsg, KeepAliveMsg]), Step::Update, Step::Quiet(1000),
+    ] },
+    Case { name: "no own hold time", config: NO_HOLD_TIME, steps: &[
+        Step::Given(&[ManualStart, TcpCrAcked, BgpOpen { hold: 90 }]), Step::Quiet(1000),
+        Step::Given(&[KeepAliveMsg, UpdateMsg, KeepAliveMsg]), Step::Update, Step::Quiet(1000),
+    ] },
+    Case { name: "no hold time of the peer", config: RESTARTED, steps: &[
+        Step::Given(&[ManualStart, TcpCrAcked, BgpOpen { hold: 0 }]), Step::Quiet(1000),
+        Step::Given(&[KeepAliveMsg, UpdateMsg, KeepAliveMsg]), Step::Update, Step::Quiet(1000),
+    ] },
+    // A KEEPALIVE and an UPDATE set the HoldTimer again, an UPDATE that was sent the KeepaliveTimer.
+    Case { name: "messages set their timers again", config: SessionConfig { hold: 9, restart: 0 }, steps: &[
+        Step::Given(&[ManualStart, TcpCrAcked, BgpOpen { hold: 90 }, KeepAliveMsg]),
+        Step::Updates, Step::Given(&[KeepAliveMsg]),
+        Step::Updates, Step::Given(&[UpdateMsg]),
+        Step::Updates, Step::Given(&[UpdateMsg]),
+        Step::Updates, Step::Given(&[KeepAliveMsg]),
+        Step::Updates, Step::Out(HoldTimerExpires),
+    ] },
+    // After a stop by hand, in Established or after a close, nothing starts by itself.
+    Case { name: "stopped in Established", config: RESTARTED, steps: &[
+        Step::Given(UP), Step::Given(&[ManualStop]), Step::Quiet(1000), Step::IsIdle,
+    ] },
+    Case { name: "stopped after a close", config: RESTARTED, steps: &[
+        Step::Given(UP), Step::Given(&[TcpConnectionFails, ManualStop]), Step::Quiet(1000), Step::IsIdle,
+    ] },
+    Case { name: "stopped before an UPDATE", config: RESTARTED, steps: &[
+        Step::Given(UP), Step::Given(&[ManualStop, UpdateMsg]), Step::Quiet(1000), Step::IsIdle,
+    ] },
 ];
 
-/// Each timer runs out in the last of its ticks, and in none before.
-#[test]
-fn each_timer_runs_out_in_its_last_tick(rt: HostRuntime) {
-    for row in &LAST_TICKS {
-        let mut session = session(90, 5);
-        give_all(&rt, &mut session, row.events);
-        stay_quiet(&rt, &mut session, row.tick.saturating_sub(1), row.name);
-        assert!(rt; session.tick() == Some(row.event), "{}", row.name);
-    }
-}
-
 /// An UPDATE was sent, in Established.
-fn send_update(rt: &impl Abort, session: &mut Session) {
-    assert!(rt; session.state() == State::Established);
+fn send_update(rt: &impl Abort, session: &mut Session, name: &str) {
+    assert!(rt;
+        session.state() == State::Established,
+        "{name}: Established"
+    );
     session.update_sent();
 }
 
-/// The ways to OpenConfirm with the hold time of the peer's OPEN, beside the own one; one of them is 0.
-static NO_HOLD_TIME: [(u16, &[FsmEvent]); 3] = [
-    (0, &[ManualStart, TcpCrAcked, BgpOpen { hold: 0 }]),
-    (0, &[ManualStart, TcpCrAcked, BgpOpen { hold: 90 }]),
-    (90, &[ManualStart, TcpCrAcked, BgpOpen { hold: 0 }]),
-];
-
-static KEPT_UP: [FsmEvent; 3] = [KeepAliveMsg, UpdateMsg, KeepAliveMsg];
-
-fn never_runs_out(rt: &impl Abort, own: u16, way: &[FsmEvent]) {
-    assert!(rt; is_hold_time(own));
-    let mut session = session(own, 5);
-    give_all(rt, &mut session, way);
-    stay_quiet(rt, &mut session, 1000, "OpenConfirm");
-    give_all(rt, &mut session, &KEPT_UP);
-    send_update(rt, &mut session);
-    stay_quiet(rt, &mut session, 1000, "Established");
-}
-
-/// Hold time 0 on either side: nothing runs out from OpenConfirm on.
-#[test]
-fn hold_time_zero(rt: HostRuntime) {
-    for &(own, way) in &NO_HOLD_TIME {
-        never_runs_out(&rt, own, way);
+fn take(rt: &impl Abort, session: &mut Session, name: &str, step: &Step) {
+    match step {
+        Step::On(event, actions) => {
+            let asked = give(rt, session, *event);
+            assert!(rt; asked.as_slice() == *actions, "{name}");
+        }
+        Step::Given(events) => give_all(rt, session, events),
+        Step::Quiet(ticks) => stay_quiet(rt, session, *ticks, name),
+        Step::Out(event) => assert!(rt; session.tick() == Some(*event), "{name}: runs out"),
+        Step::Update => send_update(rt, session, name),
+        Step::Updates => {
+            for _ in 0..4 {
+                stay_quiet(rt, session, 2, name);
+                send_update(rt, session, name);
+            }
+        }
+        Step::IsIdle => assert!(rt; session.state() == State::Idle, "{name}: Idle"),
     }
 }
 
-static UP_WITH_NINE: [FsmEvent; 4] = [ManualStart, TcpCrAcked, BgpOpen { hold: 90 }, KeepAliveMsg];
-
-static HEARD: [FsmEvent; 4] = [KeepAliveMsg, UpdateMsg, UpdateMsg, KeepAliveMsg];
-
-/// Eight seconds, of which every second one ends with an UPDATE that is sent.
-fn send_updates(rt: &impl Abort, session: &mut Session) {
-    for _ in 0..4 {
-        stay_quiet(rt, session, 2, "an UPDATE was sent");
-        send_update(rt, session);
-    }
-}
-
-/// A KEEPALIVE and an UPDATE set the HoldTimer again, an UPDATE that was sent the KeepaliveTimer.
+/// It keeps the settings that it was made with, whatever was agreed.
 #[test]
-fn messages_set_their_timers_again(rt: HostRuntime) {
-    let mut session = session(9, 0);
-    give_all(&rt, &mut session, &UP_WITH_NINE);
-    for &heard in &HEARD {
-        send_updates(&rt, &mut session);
-        give_all(&rt, &mut session, &[heard]);
-    }
-    send_updates(&rt, &mut session);
-    assert!(rt; session.tick() == Some(HoldTimerExpires));
-}
-
-static UP: [FsmEvent; 4] = [ManualStart, TcpCrAcked, BgpOpen { hold: 30 }, KeepAliveMsg];
-
-/// What may follow in Established, with a stop by hand in it.
-static STOPPED: [&[FsmEvent]; 3] = [
-    &[ManualStop],
-    &[TcpConnectionFails, ManualStop],
-    &[ManualStop, UpdateMsg],
-];
-
-/// After a stop by hand, in Established or after a close, nothing starts by itself.
-#[test]
-fn a_stopped_session_stays_idle(rt: HostRuntime) {
-    for last in &STOPPED {
-        let mut session = session(90, 5);
-        give_all(&rt, &mut session, &UP);
-        give_all(&rt, &mut session, last);
-        stay_quiet(&rt, &mut session, 1000, "stopped");
-        assert!(rt; session.state() == State::Idle);
+fn timers_run_out_in_their_last_second_and_no_other(rt: HostRuntime) {
+    for case in &CASES {
+        assert!(rt; is_hold_time(case.config.hold));
+        let mut session = session(case.config.hold, case.config.restart);
+        for step in case.steps {
+            take(&rt, &mut session, case.name, step);
+        }
+        assert!(rt; session.config() == case.config, "{}", case.name);
     }
 }
