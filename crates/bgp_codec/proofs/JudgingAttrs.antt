@@ -11,7 +11,7 @@ use Rattle.bgp_codec.specs.declared.fault.Fault.{Fault}
 use Rattle.bgp_codec.specs.declared.attributes.Attrs.{Attrs}
 use Rattle.bgp_codec.specs.declared.attributes.Raw.{Raw}
 use Rattle.bgp_codec.specs.declared.path.Segment.{Segment}
-use Rattle.bgp_codec.specs.declared.fault_search.Came.{Came}
+use Rattle.bgp_codec.specs.declared.judging.Came.{Came}
 use Rattle.bgp_codec.specs.Reading.{Reader, all_of}
 use Rattle.bgp_codec.specs.Judging.{Remembers, first_number}
 use Rattle.bgp_codec.specs.AttrTable.{high_flags, is_known, flags_fit, size_fits}

@@ -2,7 +2,7 @@
 -- takes no memory for values.
 use Rattle.std.specs.Prelude.{◌≡◌, ◌<◌, ℕ, false, List, [], ◌∷◌, length, Option, Some, None, IfSome, Ok, slice_index_or}
 use Rattle.bgp_values.specs.declared.width.Width.{Width}
-use Rattle.bgp_codec.specs.declared.fault_search.Came.{Came}
+use Rattle.bgp_codec.specs.declared.judging.Came.{Came}
 use Rattle.bgp_codec.specs.declared.attributes.Attrs.{Attrs}
 use Rattle.bgp_codec.specs.declared.message.Message.{Message}
 use Rattle.bgp_codec.specs.declared.message.Message.TheVariants.{UpdateMsg}

@@ -12,7 +12,7 @@ ghost use Rattle.bgp_codec.specs.UpdateReading.{update_reading};
 ghost use Rattle.bgp_codec.specs.Faults.{read_as, reading, fault, RefusesAs};
 
 use crate::fault::CodecError;
-use crate::fault_search::{judge_open, judge_update};
+use crate::judging::{judge_open, judge_update};
 use crate::message::Message;
 use crate::notice::read_notice;
 use crate::open::read_open;

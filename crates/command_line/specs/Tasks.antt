@@ -6,8 +6,8 @@ use Rattle.text_engines.specs.Checking.{Checks}
 use Rattle.play_engine.specs.Playing.{Plays}
 use Rattle.play_engine.specs.Cutting.{Cuts, Whys}
 use Rattle.trace_engine.specs.Tracings.{Traces}
-use Rattle.run_engine.specs.Running.{LinesRun, Runs}
-use Rattle.record_engine.specs.Recording.{LinesRecord, Records}
+use Rattle.thread_engines.specs.Running.{LinesRun, Runs}
+use Rattle.thread_engines.specs.Recording.{LinesRecord, Records}
 use Rattle.safe_engine.specs.Answers.{Judges}
 use Rattle.stable_engine.specs.Answers.{Lists}
 use Rattle.command_line.specs.declared.tasks.Task.{Task}
@@ -18,9 +18,9 @@ use Rattle.command_line.specs.declared.tasks.ThreadTask.TheVariants as threads
 -- the text that a task without threads prints for an input
 abbrev pub TaskPrints : Task → List ℕ → Output → Type 0
 TaskPrints (task.Decode rule) = Prints rule
-TaskPrints task.Check = Checks
+TaskPrints (task.Check all) = Checks all
 TaskPrints task.Play = Plays
-TaskPrints (task.Trace shows_octets) = Traces
+TaskPrints (task.Trace shows_octets) = Traces shows_octets
 TaskPrints (task.Cut s) = Cuts s
 TaskPrints (task.Why u) = Whys u
 TaskPrints (task.Stable limits) = Lists limits

@@ -133,7 +133,9 @@ Router 2 would rather go through 3, whose path is there, so the output is
 
 A path is its routers, the router itself first and the origin last, or 'none'. A router without a
 'rank' line prefers the shortest path, then the smaller numbers. Where no router would move the
-output is 'stable'. 'bgpnet --help' has the lines of a network and the codes of refusals.
+output is 'stable'. With --all it has a line for each prefix, 'prefix Q stable' or 'prefix Q unstable
+N', and behind this one N lines as above, one for each router that would move. 'bgpnet --help' has the
+lines of a network and the codes of refusals.
 
 Status 0: it is judged. 1: a refused input. 2: other words than these. 3: memory was refused ('memory').
 4: a read or a write failed."
@@ -155,9 +157,10 @@ output is
 
 'stable K': so many assignments are stable for the prefix, and no other ('many' where they are more
 than 18446744073709551615). 'route': the router has this path in all of them. 'dispute': routers whose
-paths depend on each other; 'choice' has a path for each of them, in their order. An assignment is
-stable exactly where it has the paths of the routes, and of each dispute one of its choices. A dispute
-with 'stable 0' has none, and then no assignment is stable.
+paths depend on each other; 'choice' has a path for each of them, in their order. 'follow U PREFIX PATH
+..': which of these paths router U has, the choices decide. A stable assignment has the paths of the
+routes, and of each dispute one of its choices; to each way to take one of each belongs exactly one. A
+dispute with 'stable 0' has no choice, and then no assignment is stable.
 
 'prefix PREFIX unknown WHY': a limit was met, and nothing is said of the prefix. 'paths U': router U has
 no 'rank' line for it, and may have too many paths. 'choices U V ..': these routers have together more

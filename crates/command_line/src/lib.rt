@@ -2,9 +2,9 @@
 //!
 //! [`read_words`] says what the words ask for: a [`Task`] that starts no thread, a [`ThreadTask`], or a text, which is
 //! a help or what is wrong with the words. [`run_task`] and [`run_thread_task`] hand a task to an engine of
-//! `text_engines`, `stable_engine`, `play_engine`, `trace_engine`, `run_engine` or `record_engine`, and their contracts
-//! say exactly what is written for what is read. `run_task` has no bound by which it could wait for a thread: it
-//! returns. [`run_with`] does what the words ask for, and may wait. It answers a status exactly where no read and no
+//! `text_engines`, `stable_engine`, `safe_engine`, `play_engine`, `trace_engine` or `thread_engines`, and their
+//! contracts say exactly what is written for what is read. `run_task` has no bound by which it could wait for a thread:
+//! it returns. [`run_with`] does what the words ask for, and may wait. It answers a status exactly where no read and no
 //! write failed. [`status_of`] is the status that the program ends with.
 #![tactic(auto)]
 

@@ -18,7 +18,7 @@ use std::thread::Threads;
 use text_engines::{
     CheckEngine, IoStopped, Sink, Source, answer_by, answer_input, decode_stream, text_output,
 };
-use thread_runs::RunOptions;
+use thread_engines::{RunOptions, record, run};
 use trace_engine::TraceEngine;
 
 /// A task that starts no thread.
@@ -26,8 +26,8 @@ use trace_engine::TraceEngine;
 pub enum Task {
     /// Decode under a rule: the width of AS numbers, and the speaker's number where `--peer` names it.
     Decode(Rule),
-    /// Check an assignment.
-    Check,
+    /// Check an assignment, and list all routers that would move, or name the first.
+    Check(bool),
     /// Play a schedule.
     Play,
     /// Write the run of a schedule as a schedule, with the octets of what is sent, or without.
@@ -64,7 +64,7 @@ pub fn run_task<S: Source, T: Sink>(
 {
     match task {
         Task::Decode(rule) => decode_stream(alloc, &rule, reader, writer),
-        Task::Check => answer_input(alloc, &CheckEngine, reader, writer),
+        Task::Check(lists_all) => answer_input(alloc, &CheckEngine { lists_all }, reader, writer),
         Task::Play => answer_input(alloc, &Shown::Report, reader, writer),
         Task::Trace(shows_octets) => {
             answer_input(alloc, &TraceEngine { shows_octets }, reader, writer)
@@ -91,9 +91,9 @@ where
 {
     match read_network(alloc, text) {
         Ok(network) => match task {
-            ThreadTask::Run(options) => run_engine::network_output(rt, alloc, options, &network),
+            ThreadTask::Run(options) => run::network_output(rt, alloc, options, &network),
             ThreadTask::Record(options) => {
-                record_engine::network_output(rt, alloc, options, text, &network)
+                record::network_output(rt, alloc, options, text, &network)
             }
         },
         Err(refused) => text_output(alloc, &refused),

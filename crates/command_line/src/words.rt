@@ -16,7 +16,7 @@ use clap::{Arg, ArgAction, ArgMatches, Command, Error};
 use stable_search::SearchLimits;
 use std::alloc::{AllocError, Global};
 use text_engines::status::{DONE, USAGE};
-use thread_runs::RunOptions;
+use thread_engines::RunOptions;
 
 /// What the words ask for.
 #[derive(Drop)]
@@ -187,6 +187,15 @@ fn trace_command<'a>(alloc: Global) -> Result<Command<'a>, AllocError> {
     word_command(alloc, "trace", about, TRACE_HELP).arg(octets)
 }
 
+fn check_command<'a>(alloc: Global) -> Result<Command<'a>, AllocError> {
+    let all = Arg::new(alloc, "all")
+        .long("all")
+        .action(ArgAction::SetTrue)
+        .help("List all routers that would move, prefix by prefix");
+    let about = "Says whether an assignment of paths is stable";
+    word_command(alloc, "check", about, CHECK_HELP).arg(all)
+}
+
 fn cut_command<'a>(alloc: Global) -> Result<Command<'a>, AllocError> {
     let help = "The number of the snapshot, 1 to 4294967295";
     let number = number_arg(alloc, "number", "S", help).required(true);
@@ -236,8 +245,6 @@ fn threads_command<'a>(alloc: Global, word: Command<'a>) -> Result<Command<'a>, 
 
 // The words that the program takes.
 fn command<'a>(alloc: Global) -> Result<Command<'a>, AllocError> {
-    let about = "Says whether an assignment of paths is stable";
-    let check = word_command(alloc, "check", about, CHECK_HELP);
     let about = "Plays a schedule of a network's routers";
     let play = word_command(alloc, "play", about, PLAY_HELP);
     let about = "Runs a network in threads";
@@ -251,7 +258,7 @@ fn command<'a>(alloc: Global) -> Result<Command<'a>, AllocError> {
         .version(VERSION)
         .subcommand_required(true)
         .subcommand(decode_command(alloc)?)?
-        .subcommand(check)?
+        .subcommand(check_command(alloc)?)?
         .subcommand(stable_command(alloc)?)?
         .subcommand(safe_command(alloc)?)?
         .subcommand(play)?
@@ -271,7 +278,7 @@ fn asked_by(alloc: Global, matches: &ArgMatches) -> Result<Asked, AllocError> {
         return Ok(Asked::Text(text, USAGE));
     }
     match word.as_bytes() {
-        b"check" => Ok(Asked::Task(Task::Check)),
+        b"check" => Ok(Asked::Task(Task::Check(found.get_flag("all")))),
         b"stable" => Ok(Asked::Task(Task::Stable(search_limits(found)))),
         b"safe" => Ok(Asked::Task(Task::Safe(most_paths(found)))),
         b"play" => Ok(Asked::Task(Task::Play)),

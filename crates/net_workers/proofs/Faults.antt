@@ -9,11 +9,15 @@ use Rattle.worker_loop.specs.declared.worker.WorkerFault.TheVariants as worker
 use Rattle.worker_loop.specs.Whole.{IsLaterWorker}
 use Rattle.net_workers.specs.declared.record.RunFault.{RunFault}
 use Rattle.net_workers.specs.declared.record.RunFault.TheVariants as fault
+use Rattle.net_workers.specs.declared.record.Journals.{Journals}
 use Rattle.net_workers.specs.declared.record.Worked.{Worked}
 use Rattle.net_workers.specs.declared.running.Finished.{Finished}
-use Rattle.net_workers.specs.Lanes.{wires_of}
+use Rattle.net_workers.specs.Lanes.{wiring_of}
 use Rattle.net_workers.specs.Dealt.{AreDealt}
-use Rattle.net_workers.specs.Ran.{IsFresh, Ran, Ceased, worked_of, lines_of, fault_of, or_else, first_fault}
+use Rattle.net_workers.specs.Ran.{AreRecord, IsFresh, Ran, Ceased, worked_of, lines_of, fault_of, or_else, first_fault}
+use Rattle.net_workers.specs.Runs.{JournalsKeepPromises}
+use Rattle.net_workers.specs.Ways.{AreWays, passed_in}
+use Rattle.net_workers.specs.Handed.{JournalsOf}
 use Rattle.net_workers.specs.Faults.{HaveEnded, IsFaultOf, FaultOf}
 use Rattle.net_workers.proofs.Records.{all_by}
 
@@ -39,10 +43,6 @@ never_differs (e ∷ es) h = never_differs_by e.worker.router.number e.fault (fi
 
 -- ---- results
 
-pub ok_so : {A E : Type 0} → (r : Result A E) (P Q : A → Type 0) → ((x : A) → P x → Q x) → IfOk r P → IfOk r Q
-ok_so (Ok x) P Q f h = f x h
-ok_so (Err e) P Q f h = tt
-
 pub err_so : {A E : Type 0} → (r : Result A E) (P Q : E → Type 0) → ((e : E) → P e → Q e) → IfErr r P → IfErr r Q
 err_so (Ok x) P Q f h = tt
 err_so (Err e) P Q f h = f e h
@@ -66,9 +66,22 @@ pub worked_script : {G T : Type 0} → (script : G → T) (ends : List (Finished
 worked_script script [] = refl
 worked_script script (e ∷ es) = ap (λ ts. script e.worker.gate ∷ ts) (worked_script script es)
 
+-- what a record of workers that have ended says, with their scripts
+pub journals_are : {G T : Type 0} (given : G → List Chore) (script_of : G → T) (plan : Plan) (turns : ℕ) (scripts : List T) (ends : List (Finished G)) (r : Result (Journals G) RunFault)
+    → map (λ e. script_of e.worker.gate) ends ≡ scripts → IfOk r (λ j. j.workers.items ≡ map worked_of ends) → IfOk r (λ j. AreWays plan j.ways.items)
+    → IfOk r (λ j. AreRecord given plan turns (passed_in j.ways.items) j.workers.items j.collector) → IfOk r (λ j. JournalsKeepPromises plan (passed_in j.ways.items) j.workers.items j.collector)
+    → IfOk r (JournalsOf given script_of plan turns scripts)
+journals_are given script_of plan turns scripts ends (Ok j) same worked ways recorded promises = record {
+  script = ap (map (λ w. script_of w.gate)) worked ∙ worked_script script_of ends ∙ same;
+  ways = ways;
+  recorded = recorded;
+  promises = promises;
+}
+journals_are given script_of plan turns scripts ends (Err why) same worked ways recorded promises = tt
+
 module _ {G : Type 0} (given : G → List Chore) (plan : Plan) (turns : ℕ) where
   abbrev Later : List (Finished G) → List (Finished G) → Type 0
-  Later before after = (i : ℕ) (d : Finished G) → i < length before → IsLaterWorker wires_of (slice_index_or before i d).worker (slice_index_or after i d).worker
+  Later before after = (i : ℕ) (d : Finished G) → i < length before → IsLaterWorker wiring_of (slice_index_or before i d).worker (slice_index_or after i d).worker
 
   numbers_stay : (before after : List (Finished G)) → length after ≡ length before → Later before after
       → map (λ e. e.worker.router.number) after ≡ map (λ e. e.worker.router.number) before
@@ -91,7 +104,7 @@ module _ {G : Type 0} (given : G → List Chore) (plan : Plan) (turns : ℕ) whe
   )
 
   pub have_ended : (before after : List (Finished G)) → length after ≡ length before
-      → ((i : ℕ) (d : Finished G) → i < length before → IsLaterWorker wires_of (slice_index_or before i d).worker (slice_index_or after i d).worker)
+      → ((i : ℕ) (d : Finished G) → i < length before → IsLaterWorker wiring_of (slice_index_or before i d).worker (slice_index_or after i d).worker)
       → ((i : ℕ) (d : Finished G) → i < length before → IfSome (slice_index_or after i d).fault (Ceased given turns (slice_index_or after i d).worker))
       → ((i : ℕ) (d : Finished G) → i < length before → IfNone (slice_index_or after i d).fault (Ran given turns (slice_index_or before i d).worker (slice_index_or after i d).worker))
       → IsNetwork plan → map (λ e. e.worker.router.number) before ≡ numbers plan.routers → AllByRecursion (λ e. IsFresh given plan e.worker) before → AreDealt plan plan.links (map lines_of before)

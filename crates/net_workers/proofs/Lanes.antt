@@ -4,12 +4,17 @@ use Rattle.std.specs.Prelude.{nat_lt, MatchOption, Result, Ok, Err, OnOk, OnErr}
 use Rattle.ruled_pipe.specs.Ends.{End, with_item}
 use Rattle.std.proofs.Math.Path.{fun_ext}
 use Rattle.std.specs.List.{position, position_or_len}
+use Rattle.std.specs.Option.{unwrap_or}
+use Rattle.std.proofs.lemmas.List.{length-map}
+use Rattle.std.proofs.lemmas.Option.{get_or_from_slice_get, slice_get-map}
+use Rattle.std.specs.Prelude.{slice_get, option_map}
 use Rattle.std.proofs.lemmas.Bool.{eqb-true, eqb-false, eq-eqb, ne_eqb}
 use Rattle.std.proofs.lemmas.Bool.Decides.{nat_tests}
 use Rattle.outbox.specs.declared.item.Item.{Item}
 use Rattle.worker_loop.specs.Acts.{grown}
 use Rattle.net_workers.specs.declared.worker_pipes.PipePair.{PipePair}
-use Rattle.net_workers.specs.Lanes.{is_to, lane_has, reaches, Wire, wire_of, IsAt, IsFound}
+use Rattle.net_workers.specs.declared.worker_pipes.WorkerPipes.{WorkerPipes}
+use Rattle.net_workers.specs.Lanes.{is_to, lane_has, reaches, Wire, wire_of, Wiring, wiring_of, place_among, stands_at, IsAt, IsFound}
 
 -- ---- where it stands
 
@@ -47,6 +52,33 @@ seek_by false ls v e = none_first ls v (grind (arith, nat_tests, e))
 
 pub seek : (ls : List PipePair) (v : ℕ) (r : Option ℕ) → r ≡ position (is_to v) ls → MatchOption r (reaches ls v ≡ false) (IsFound ls v)
 seek ls v r is = rw is (seek_by (nat_lt (position_or_len (is_to v) ls) (length ls)) ls v refl)
+
+-- a worker's order says where it stands
+wire_place : (ls : List PipePair) (v : ℕ) → position_or_len (λ (wire : Wire). wire.peer == v) (map wire_of ls) ≡ position_or_len (is_to v) ls
+wire_place [] v = refl
+wire_place (l ∷ ls) v = ap (λ (k : ℕ). cond (not (l.peer == v)) (1 + k) 0) (wire_place ls v)
+
+pub wire_among : (ls : List PipePair) (v : ℕ) → place_among (λ (wire : Wire). wire.peer == v) (map wire_of ls) ≡ place_among (is_to v) ls
+wire_among ls v =
+    let many : length (map wire_of ls) ≡ length ls = length-map ls wire_of in
+    let place = wire_place ls v in
+    λ i. unwrap_or (cond (nat_lt (place i) (many i)) (Some (place i)) None) (many i)
+
+pub stands_is : (e : WorkerPipes) (place v at : ℕ) → stands_at (wiring_of e) place v → at ≡ get_or e.order.items place at → at ≡ place_among (is_to v) e.pairs.items
+stands_is e place v at stands is = is ∙ get_or_from_slice_get e.order.items place _ at stands ∙ wire_among e.pairs.items v
+
+-- an order of the places of all peers
+pub order_stands : (ls : List PipePair) (order peers : List ℕ) → order ≡ map (λ v. place_among (is_to v) ls) peers → (place v : ℕ) → slice_get peers place ≡ Some v
+    → slice_get order place ≡ Some (place_among (λ (wire : Wire). wire.peer == v) (map wire_of ls))
+order_stands ls order peers is place v at =
+    ap (λ (ns : List ℕ). slice_get ns place) is ∙ slice_get-map (λ u. place_among (is_to u) ls) peers place ∙ ap (option_map (λ u. place_among (is_to u) ls)) at
+    ∙ ap (λ (n : ℕ). Some n) (sym (wire_among ls v))
+
+pub pair_there : (ls : List PipePair) (v at : ℕ) (o : Option ℕ) → o ≡ position (is_to v) ls → at ≡ unwrap_or o (length ls) → (at < length ls → IsFound ls v at) × (length ls ≤ at → reaches ls v ≡ false)
+pair_there ls v at None is e = (λ below. absurd (omega (arith, below, e)), λ far. seek ls v None is)
+pair_there ls v at (Some i) is e =
+    let found : IsFound ls v i = seek ls v (Some i) is in
+    (λ below. subst (IsFound ls v) (sym e) found, λ far. absurd (let below = found.0 in omega (arith, below, e, far)))
 
 -- ---- what it has
 
@@ -125,8 +157,12 @@ default_is (x ∷ xs) v zero d e h = refl
 default_is (x ∷ xs) v (suc i) d e h = default_is xs v i d e h.1
 
 -- the pairs are of the same pipes
-pub same_wires : (ls : List PipePair) (v i : ℕ) (l old : PipePair) → Here ls v i old → wire_of l ≡ wire_of old → map wire_of (set ls i l) ≡ map wire_of ls
+same_wires : (ls : List PipePair) (v i : ℕ) (l old : PipePair) → Here ls v i old → wire_of l ≡ wire_of old → map wire_of (set ls i l) ≡ map wire_of ls
 same_wires ls v i l old h e = wires_at ls v i l h.at (e ∙ ap wire_of (h.is ∙ default_is ls v i old l h.at))
+
+pub same_wiring : (ls : List PipePair) (order : List ℕ) (v i : ℕ) (l old : PipePair) → Here ls v i old → wire_of l ≡ wire_of old
+    → Path Wiring (record { wires = map wire_of (set ls i l); order = order }) (record { wires = map wire_of ls; order = order })
+same_wiring ls order v i l old h e = ap (λ (ws : List Wire). record { wires = ws; order = order }) (same_wires ls v i l old h e)
 
 -- ---- ends of pipes
 

@@ -1,6 +1,7 @@
 -- Lists that are made one by one.
 use Rattle.std.proofs.Common.{◌≡◌, ℕ, zero, suc, arith, ◌+◌, ◌<◌, take, subst, add-one, List, [], ◌∷◌, ◌++◌, map, length, drop, get_or, refl, sym, ap, ◌∙◌}
 use Rattle.std.specs.List.{AllByRecursion}
+use Rattle.ranked_policy.specs.declared.network.Link.{Link}
 use Rattle.ranked_policy.specs.declared.network.NetRouter.{NetRouter}
 use Rattle.ranked_policy.specs.Plans.{IsRouter, numbers}
 use Rattle.std.proofs.lemmas.List.{drop_more, map-append}
@@ -49,3 +50,16 @@ none_left (x ∷ xs) none = absurd (omega (arith, none))
 pub lines_more : {X Y : Type 0} (f : X → Y) (xs : List X) (x : X) (y : Y) (rest all : List Y) → all ≡ y ∷ rest → f x ≡ y → map f xs ++ all ≡ map f (xs ++ x ∷ []) ++ rest
 lines_more f [] x y rest all is same = is ∙ ap (λ z. z ∷ rest) (sym same)
 lines_more f (a ∷ xs) x y rest all is same = ap (λ zs. f a ∷ zs) (lines_more f xs x y rest all is same)
+
+-- one more place of a pair is put
+pub placed_on : (place : ℕ → ℕ) (links : List Link) (i : ℕ) (d : Link) (old new all : List ℕ) → i < length links → new ≡ old ++ place (get_or links i d).other ∷ []
+    → old ++ map place (map (λ link. link.other) (drop i links)) ≡ all → new ++ map place (map (λ link. link.other) (drop (i + 1) links)) ≡ all
+placed_on place links i d old new all below put h =
+    let rest = map place (map (λ (link : Link). link.other) (drop (i + 1) links)) in
+    ap (λ (ns : List ℕ). ns ++ rest) put ∙ behind old (place (get_or links i d).other) rest
+    ∙ ap (λ (ks : List Link). old ++ map place (map (λ link. link.other) ks)) (sym (drop_more links i d below)) ∙ h
+
+-- the same of what each has
+pub parts_more : {X Y Z : Type 0} (f : X → Y) (h : Y → Z) (xs : List X) (x : X) (y : Y) (rest all : List Y) → all ≡ y ∷ rest → h (f x) ≡ h y → map h (map f xs ++ all) ≡ map h (map f (xs ++ x ∷ []) ++ rest)
+parts_more f h [] x y rest all is same = ap (map h) is ∙ ap (λ z. z ∷ map h rest) (sym same)
+parts_more f h (a ∷ xs) x y rest all is same = ap (λ zs. h (f a) ∷ zs) (parts_more f h xs x y rest all is same)

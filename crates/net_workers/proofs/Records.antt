@@ -164,7 +164,7 @@ module _ {G : Type 0} (law : WhatFollowsIsDone) (given : G → List Chore) (plan
       let f = ran.follows g (is ∙ sym fresh.net) set in
       let follows : Follows g u (peers g.net u) (given a.worker.gate) (seen b.worker) f.0 (seen a.worker) =
       subst (λ n. Follows g n (peers g.net n) (given a.worker.gate) (seen b.worker) f.0 (seen a.worker)) (sym ran.same.number)
-      (subst (λ ns. Follows g b.worker.router.number ns (given a.worker.gate) (seen b.worker) f.0 (seen a.worker)) (fresh.peers ∙ ap (λ k. peers k b.worker.router.number) (sym is)) f.1) in
+      (subst (λ ns. Follows g b.worker.router.number ns (given a.worker.gate) (seen b.worker) f.0 (seen a.worker)) (ap (λ k. peers k b.worker.router.number) (fresh.net ∙ sym is)) f.1) in
       let done = law g u (peers g.net u) (given a.worker.gate) (seen b.worker) (seen a.worker) f.0 follows in
       record {
         first = seen b.worker;

@@ -13,7 +13,7 @@ use Rattle.net_workers.specs.declared.worker_pipes.WorkerPipes.{WorkerPipes}
 use Rattle.net_workers.specs.declared.worker_pipes.PipePair.{PipePair}
 use Rattle.net_workers.specs.declared.record.ClosedPipe.{ClosedPipe}
 use Rattle.net_workers.specs.declared.running.Finished.{Finished}
-use Rattle.net_workers.specs.Lanes.{wire_of, wires_of, put_of, taken_of}
+use Rattle.net_workers.specs.Lanes.{Wiring, wire_of, wires_of, put_of, taken_of}
 use Rattle.net_workers.specs.Ran.{Ran, first_fault, put_by, taken_by, passed_by, lines_of}
 use Rattle.net_workers.specs.Runs.{InTurn}
 use Rattle.net_workers.specs.Ways.{leads, way_has, passed_in, IsWay}
@@ -103,7 +103,7 @@ module _ {G : Type 0} (given : G → List Chore) (plan : Plan) (turns : ℕ) (be
   pub dealt_still : (ends : List WorkerPipes) (links : List Link) → ends ≡ map lines_of after → AreDealt plan links (map lines_of before) → AreDealt plan links ends
   dealt_still ends links is dealt =
       subst (AreDealt plan links) (sym is)
-      (subst (Dealt plan.settings.pipe links) (fun_ext (λ u. sym (same_wires_by WorkedOn (λ b a r. r.same.lines) (numbers plan.routers) before after all_ran u))) dealt)
+      (subst (Dealt plan.settings.pipe links) (fun_ext (λ u. sym (same_wires_by WorkedOn (λ b a r. ap (λ (w : Wiring). w.wires) r.same.lines) (numbers plan.routers) before after all_ran u))) dealt)
 
   -- what passed
   pub passed_then : (ends : List WorkerPipes) (ways : List ClosedPipe) → ends ≡ map lines_of after → numbers_of before ≡ numbers plan.routers

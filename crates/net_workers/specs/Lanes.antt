@@ -1,6 +1,7 @@
 -- The ends of pipes that a worker holds, by peer.
-use Rattle.std.specs.Prelude.{ℕ, zero, suc, ◌≡◌, ◌≢◌, ◌<◌, ◌==◌, Bool, true, false, cond, List, [], ◌∷◌, length, map}
-use Rattle.std.specs.List.{AllByRecursion}
+use Rattle.std.specs.Prelude.{ℕ, zero, suc, ◌≡◌, ◌≢◌, ◌<◌, ◌==◌, Bool, true, false, cond, List, [], ◌∷◌, length, map, slice_get, Some}
+use Rattle.std.specs.List.{AllByRecursion, position}
+use Rattle.std.specs.Option.{unwrap_or}
 use Rattle.outbox.specs.declared.item.Item.{Item}
 use Rattle.ruled_pipe.specs.Ends.{TableId}
 use Rattle.net_workers.specs.declared.worker_pipes.PipePair.{PipePair}
@@ -39,6 +40,22 @@ wire_of l = record { peer = l.peer; out = l.out.pipe; room = l.out.room; into = 
 
 abbrev pub wires_of : WorkerPipes → List Wire
 wires_of e = map wire_of e.pairs.items
+
+-- the pipes of a worker, and where the pair to each peer stands among the pairs
+pub record Wiring : Type 0 where
+  pub wires : List Wire
+  pub order : List ℕ
+
+abbrev pub wiring_of : WorkerPipes → Wiring
+wiring_of e = record { wires = wires_of e; order = e.order.items }
+
+-- where the first that passes stands; behind all, if there is none
+abbrev pub place_among : {X : Type 0} → (X → Bool) → List X → ℕ
+place_among p xs = unwrap_or (position p xs) (length xs)
+
+-- the order says at this place where the pair to v stands
+abbrev pub stands_at : Wiring → ℕ → ℕ → Type 0
+stands_at w place v = slice_get w.order place ≡ Some (place_among (λ wire. wire.peer == v) w.wires)
 
 -- the first pair to that peer stands at that place
 abbrev pub IsAt : List PipePair → ℕ → ℕ → Type 0

@@ -1,7 +1,9 @@
 pub mod Lanes
 pub mod Gathered
+pub mod Handed
 pub mod Ran
 pub mod Runs
+pub mod Sleeping
 pub mod Ways
 pub mod Dealt
 pub mod Called

@@ -23,14 +23,14 @@ use Rattle.worker_loop.specs.declared.worker.WorkerFault.{WorkerFault}
 use Rattle.worker_loop.specs.Acts.{Act, Seen, Does, entry_of}
 use Rattle.worker_loop.specs.Following.{Did, Follows}
 use Rattle.worker_loop.specs.Ending.{EndsFor}
-use Rattle.worker_loop.specs.Whole.{IsWhole, IsLaterWorker, seen_of}
+use Rattle.worker_loop.specs.Whole.{IsWhole, IsLaterWorker, PipesStand, peers_of, seen_of}
 use Rattle.offer_board.specs.declared.board.Made.{Made}
 use Rattle.offer_board.specs.Boards.{collected_in}
 use Rattle.net_workers.specs.declared.worker_pipes.WorkerPipes.{WorkerPipes}
 use Rattle.net_workers.specs.declared.board_seat.BoardSeat.{BoardSeat}
 use Rattle.net_workers.specs.declared.record.Worked.{Worked}
 use Rattle.net_workers.specs.declared.running.Finished.{Finished}
-use Rattle.net_workers.specs.Lanes.{put_of, taken_of, room_of, wires_of, AreNew}
+use Rattle.net_workers.specs.Lanes.{put_of, taken_of, room_of, wiring_of, stands_at, AreNew}
 
 abbrev pub seen : {G : Type 0} → Worker WorkerPipes BoardSeat G → Seen
 seen w = seen_of (λ e. put_of e.pairs.items) (λ e. taken_of e.pairs.items) (λ e. room_of e.pairs.items)
@@ -41,8 +41,8 @@ pub record IsFresh {G : Type 0} (given : G → List Chore) (plan : Plan)
     (w : Worker WorkerPipes BoardSeat G) : Type 0 where
   pub net : w.router.net ≡ plan
   pub router : plain_of w.router ≡ new_stamped plan
-  pub peers : w.peers.items ≡ peers plan w.router.number
   pub pairs : AreNew w.lines
+  pub pipes : PipesStand stands_at wiring_of w
   pub made : w.desk.made.items ≡ []
   pub chores : w.journal.chores.items ≡ []
   pub events : w.journal.events.items ≡ []
@@ -52,8 +52,8 @@ pub record IsFresh {G : Type 0} (given : G → List Chore) (plan : Plan)
 pub record Ran {G : Type 0} (given : G → List Chore) (turns : ℕ) (v w : Worker WorkerPipes BoardSeat G) : Type 0 where
   pub chores : w.journal.chores.items ≡ given w.gate
   pub whole : IsWhole turns (given w.gate)
-  pub follows : Did (λ g. Follows g v.router.number v.peers.items (given w.gate)) v.router.net (seen v) (seen w)
-  pub same : IsLaterWorker wires_of v w
+  pub follows : Did (λ g. Follows g v.router.number (peers_of v) (given w.gate)) v.router.net (seen v) (seen w)
+  pub same : IsLaterWorker wiring_of v w
 
 -- the items that each router put towards each other router, and that it took from it
 pub record Passed : Type 0 where

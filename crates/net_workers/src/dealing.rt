@@ -40,6 +40,7 @@ fn no_pairs(alloc: Global, workers: usize) -> Result<Vec<WorkerPipes>, AllocErro
         let _ = made;
         ends.push(WorkerPipes {
             pairs: Vec::new(alloc),
+            order: Vec::new(alloc),
         })?;
     }
     Ok(ends)

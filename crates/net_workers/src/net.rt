@@ -7,8 +7,9 @@ ghost use Rattle.snap_marker.specs.Parts.{router_of};
 ghost use Rattle.snap_collector.specs.Collector.{AreMembers, made_for, with_offers};
 ghost use Rattle.offer_board.specs.Boards.{offers_in};
 ghost use Rattle.net_workers.specs.Faults.{HaveEnded, IsFaultOf, FaultOf};
-ghost use Rattle.net_workers.specs.Ran.{first_fault, worked_of, lines_of, passed_by, OffersOf, AreLimits, IsRecord, AreRecord};
-ghost use Rattle.net_workers.specs.Runs.{RunKeepsPromises, JournalsKeepPromises};
+ghost use Rattle.net_workers.specs.Ran.{first_fault, worked_of, lines_of, passed_by, OffersOf, AreLimits, AreRecord};
+ghost use Rattle.net_workers.specs.Handed.{JournalsOf, RecordOf};
+ghost use Rattle.net_workers.specs.Runs.{JournalsKeepPromises};
 ghost use Rattle.net_workers.specs.Ways.{AreWays, passed_in};
 
 use crate::board_seat::Board;
@@ -203,12 +204,7 @@ where
     requires limits { AreLimits network.now turns (length gates.items) }
     ensures other { IfErr result (λ why. why ≢ RunFault.BadLimits) }
     ensures fault { IfErr result (FaultOf G.given G.script network.now turns (map G.script gates.items)) }
-    ensures script { IfOk result (λ r. map (λ w. G.script w.gate) r.workers.items ≡ map G.script gates.items) }
-    ensures ways { IfOk result (λ r. AreWays network.now r.ways.items) }
-    ensures recorded { IfOk result
-        (λ r. AreRecord G.given network.now turns (passed_in r.ways.items) r.workers.items r.collector) }
-    ensures promises { IfOk result
-        (λ r. JournalsKeepPromises network.now (passed_in r.ways.items) r.workers.items r.collector) }
+    ensures ran { IfOk result (JournalsOf G.given G.script network.now turns (map G.script gates.items)) }
 {
     let board = Board::new(alloc, network)?;
     let workers = ended_workers(rt, alloc, network, gates, turns, &board)?;
@@ -245,15 +241,7 @@ where
     // Of some workers with these scripts: the fault is that of the least router that has one; it ended for it, and
     // those before it did their chores.
     ensures fault { IfErr result (FaultOf G.given G.script network.now limits.turns (map G.script gates.items)) }
-    // Router by router, the gate that comes back has the script of the given one.
-    ensures script { IfOk result (λ r. map (λ w. G.script w.gate) r.workers.items ≡ map G.script gates.items) }
-    ensures ways { IfOk result (λ r. AreWays network.now r.ways.items) }
-    ensures recorded { IfOk result
-        (λ r. AreRecord G.given network.now limits.turns (passed_in r.ways.items) r.workers.items r.collector) }
-    // Gathered they are the record of a run of the network, in which UPDATEs passed in order and whose snapshots can be
-    // believed.
-    ensures promises { IfOk result
-        (λ r. JournalsKeepPromises network.now (passed_in r.ways.items) r.workers.items r.collector) }
+    ensures ran { IfOk result (JournalsOf G.given G.script network.now limits.turns (map G.script gates.items)) }
 {
     if !are_limits(network, limits.turns, gates.len()) {
         return Err(RunFault::BadLimits);
@@ -277,16 +265,8 @@ where
     ensures limits { OnOk result (AreLimits network.now limits.turns (length gates.items)) }
     ensures refused { IfErr result
         (λ why. why ≡ RunFault.BadLimits ↔ (AreLimits network.now limits.turns (length gates.items) → ⊥)) }
-    // Fault, script and ways are as those of `run_journals`.
     ensures fault { IfErr result (FaultOf G.given G.script network.now limits.turns (map G.script gates.items)) }
-    ensures script { IfOk result (λ r. map (λ w. G.script w.gate) r.workers.items ≡ map G.script gates.items) }
-    ensures ways { IfOk result (λ r. AreWays network.now r.ways.items) }
-    ensures recorded { IfOk result
-        (λ r. IsRecord G.given network.now limits.turns (passed_in r.ways.items) r.workers.items r.collector
-        r.gathered.items) }
-    // Every record is that of a run of the network, in which UPDATEs passed in order and whose snapshots can be believed.
-    ensures promises { IfOk result
-        (λ r. RunKeepsPromises network.now (passed_in r.ways.items) r.workers.items r.collector r.gathered.items) }
+    ensures ran { IfOk result (RecordOf G.given G.script network.now limits.turns (map G.script gates.items)) }
 {
     let journals = run_journals(rt, alloc, network, gates, limits)?;
     match journals.gather(alloc) {

@@ -3,14 +3,14 @@
 ghost use Rattle.std.specs.Prelude.{◌≡◌, ◌<◌, ℕ, [], length, map, true, All, IfOk, IfNone, IfSome, slice_index_or};
 ghost use Rattle.std.specs.List.{AllByRecursion};
 ghost use Rattle.ranked_policy.specs.Plans.{IsNetwork, IsRouter, numbers};
-ghost use Rattle.worker_loop.specs.Whole.{IsLaterWorker};
-ghost use Rattle.net_workers.specs.Lanes.{AreNew, wires_of};
+ghost use Rattle.worker_loop.specs.Whole.{IsLaterWorker, PipesStand};
+ghost use Rattle.net_workers.specs.Lanes.{IsNew, stands_at, wiring_of};
 ghost use Rattle.net_workers.specs.Dealt.{AreDealt};
 ghost use Rattle.net_workers.specs.Ran.{IsFresh, Ran, Ceased, lines_of};
 
 use crate::board_seat::{Board, BoardSeat};
 use crate::dealing::deal;
-use crate::worker_pipes::WorkerPipes;
+use crate::worker_pipes::{PipePair, WorkerPipes, order_of};
 use ranked_policy::{Asn, Network};
 use std::alloc::{AllocError, Global};
 use std::sync::Wait;
@@ -33,23 +33,22 @@ fn new_worker<'a, G: Gate + Drop>(
     alloc: Global,
     network: &'a Network,
     number: Asn,
-    lines: WorkerPipes,
+    pairs: Vec<PipePair>,
     gate: G,
 ) -> Result<Finished<'a, G>, AllocError>
     requires router { IsRouter network.now.routers number }
-    requires pairs { AreNew lines }
+    requires pairs { AllByRecursion IsNew pairs.items }
     requires gate { G.given gate ≡ [] }
     ensures fresh { IfOk result (λ ended. IsFresh G.given network.now ended.worker) }
     ensures number { IfOk result (λ ended. ended.worker.router.number ≡ number) }
-    ensures lines { IfOk result (λ ended. lines_of ended ≡ lines) }
+    ensures pairs { IfOk result (λ ended. (lines_of ended).pairs ≡ pairs) }
     ensures gate { IfOk result (λ ended. ended.worker.gate ≡ gate) }
 {
     let router = new_router(alloc, network, number)?;
-    let peers = network.peers(alloc, number)?.into_vec();
+    let order = order_of(alloc, pairs.as_slice(), network.links_of(number))?;
     let worker = Worker {
         router,
-        peers,
-        lines,
+        lines: WorkerPipes { pairs, order },
         desk: BoardSeat {
             made: Vec::new(alloc),
         },
@@ -83,7 +82,7 @@ pub(crate) fn new_workers<'a, G: Gate + Drop>(
         let (Some(lines), Some(gate)) = (ends.next(), gates.next()) else {
             unreachable!()
         };
-        workers.push(new_worker(alloc, network, router.asn, lines, gate)?)?;
+        workers.push(new_worker(alloc, network, router.asn, lines.pairs, gate)?)?;
     }
     Ok(workers)
 }
@@ -92,9 +91,10 @@ pub(crate) fn new_workers<'a, G: Gate + Drop>(
 fn run_one<R: Wait, G: Gate>(rt: &R, board: &Board, turns: u32, ended: &mut Finished<'_, G>)
     requires gate { G.given ended.old.worker.gate ≡ [] }
     requires chores { ended.old.worker.journal.chores.items ≡ [] }
+    requires pipes { PipesStand stands_at wiring_of ended.old.worker }
     ensures ran { IfNone ended.new.fault (Ran G.given turns ended.old.worker ended.new.worker) }
     ensures script { G.script ended.new.worker.gate ≡ G.script ended.old.worker.gate }
-    ensures same { IsLaterWorker wires_of ended.old.worker ended.new.worker }
+    ensures same { IsLaterWorker wiring_of ended.old.worker ended.new.worker }
     ensures ended { IfSome ended.new.fault (Ceased G.given turns ended.new.worker) }
 {
     ended.fault = ended.worker.work(rt, board, turns).err();
@@ -114,6 +114,7 @@ where
     G: Gate + Send,
     requires gates { All (λ e. G.given e.worker.gate ≡ []) workers.old.items }
     requires chores { All (λ e. e.worker.journal.chores.items ≡ []) workers.old.items }
+    requires pipes { All (λ e. PipesStand stands_at wiring_of e.worker) workers.old.items }
     ensures many { length workers.new.items ≡ length workers.old.items }
     ensures ran { (i : ℕ) (d : _) → i < length workers.old.items → IfNone (slice_index_or workers.new.items i d).fault
         (Ran G.given turns (slice_index_or workers.old.items i d).worker
@@ -122,7 +123,7 @@ where
         → G.script (slice_index_or workers.new.items i d).worker.gate
         ≡ G.script (slice_index_or workers.old.items i d).worker.gate }
     ensures same { (i : ℕ) (d : _) → i < length workers.old.items
-        → IsLaterWorker wires_of (slice_index_or workers.old.items i d).worker
+        → IsLaterWorker wiring_of (slice_index_or workers.old.items i d).worker
         (slice_index_or workers.new.items i d).worker }
     ensures ended { (i : ℕ) (d : _) → i < length workers.old.items
         → IfSome (slice_index_or workers.new.items i d).fault

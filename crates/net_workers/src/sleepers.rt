@@ -9,38 +9,56 @@
 //! - another worker did something behind as many chores as stand in front of that chore
 //! - no worker did anything for a second: from then on none sleeps
 //!
-//! No clause speaks of it: a worker that sleeps does nothing, and what it does later is what its chores say.
+//! No clause says that one of these comes, or when: a worker that sleeps does nothing, and what it does later is what its
+//! chores say. What a state may lead to, and that a worker counts before it is awake, is said in `bed.rt`; naps are
+//! finitely many, since each loop here has a bound.
 
+ghost use Rattle.std.specs.Prelude.{◌≡◌, ◌≢◌, ◌≤◌, ◌<◌, ◌+◌};
+ghost use Rattle.net_workers.specs.declared.sleepers.bed.TheConstants.{NEVER};
+
+mod bed;
+
+use bed::{Bed, Count, NEVER, One, Rest};
 use crossbeam_utils::{Backoff, CachePadded};
 use ranked_policy::{Asn, Network};
 use std::alloc::{AllocError, Global};
 use std::sync::Wait;
-use std::sync::atomic::{AtomicBool, AtomicU64, Ordering};
+use std::sync::atomic::{AtomicIn, Ordering, Rule};
 use std::thread;
-use std::thread::Parker;
 use std::time::Duration;
 use worker_loop::{Between, WorkerEvent};
 use world_core::Event;
 
-// The states of a worker: it has work; it found none, and looks once more; it sleeps; it goes on to what is due.
-const AWAKE: u64 = 0;
+// What workers do that find no work.
+#[derive(Clone, Copy, PartialEq, Eq)]
+enum Mode {
+    // They sleep.
+    Resting,
+    // They yield, since it was not worth waiting.
+    Hurried,
+    // They go on, since nothing is to come.
+    Over,
+}
 
-const DROWSY: u64 = 1;
+impl Mode {
+    // The number that stands for it in a word.
+    fn code(self) -> u64
+        ensures { result < 3 }
+    {
+        match self {
+            Mode::Resting => 0,
+            Mode::Hurried => 1,
+            Mode::Over => 2,
+        }
+    }
+}
 
-const ASLEEP: u64 = 2;
+// A word that has the number of a mode.
+struct ModeWord;
 
-const GOING: u64 = 3;
-
-// What workers do that find no work: they sleep; or they yield, since it was not worth waiting; or they go on, since
-// nothing is to come.
-const RESTING: u64 = 0;
-
-const HURRIED: u64 = 1;
-
-const OVER: u64 = 2;
-
-// The due place of a worker for which nothing is due: its chores are Turns up to its last.
-const NEVER: u64 = u64::MAX;
+impl Rule for ModeWord {
+    ghost invariant = { λ n. n < 3 };
+}
 
 // How often a worker that fell asleep looks whether it was woken, before its first nap. It takes some microseconds, in
 // which it does not leave its processor.
@@ -51,32 +69,12 @@ const NAP: u64 = 4;
 
 const NAPS: u32 = 250;
 
-// What others know of a worker. What it writes for each chore stands on cache lines of its own, since peers read the
-// rest.
-#[derive(Drop)]
-struct Bed {
-    state: AtomicU64,
-    // Whether it waited for room in a pipe as it fell asleep.
-    is_blocked: AtomicBool,
-    // How many chores stood in front of its next that is no Turn, as it fell asleep.
-    due: AtomicU64,
-    parker: Parker,
-    // How many chores it was given as it last did something.
-    given: CachePadded<AtomicU64>,
-}
-
-fn new_bed() -> Bed {
-    Bed {
-        state: AtomicU64::new(AWAKE),
-        is_blocked: AtomicBool::new(false),
-        due: AtomicU64::new(NEVER),
-        parker: Parker::new(),
-        given: CachePadded::new(AtomicU64::new(0)),
-    }
-}
-
 // How many chores stand in front of the next that is no Turn, if one comes.
-fn due_of(between: &Between<'_>) -> u64 {
+fn due_of(between: &Between<'_>) -> u64
+    ensures turns { result ≢ NEVER → result ≡ between.now.given + between.now.turns }
+    ensures most { result ≢ NEVER → result < between.now.most }
+    ensures never { result ≡ NEVER → between.now.most ≤ between.now.given + between.now.turns }
+{
     let due = u64::from(between.given) + u64::from(between.turns);
     if due < u64::from(between.most) {
         due
@@ -98,8 +96,8 @@ pub struct Sleepers {
     routers: Vec<Asn>,
     beds: Vec<CachePadded<Bed>>,
     // How many workers have not ended and do not sleep.
-    awake: CachePadded<AtomicU64>,
-    mode: AtomicU64,
+    awake: Count,
+    mode: AtomicIn<ModeWord>,
 }
 
 impl Sleepers {
@@ -109,14 +107,14 @@ impl Sleepers {
         let mut beds = Vec::new(alloc);
         for router in network.routers() {
             routers.push(router.asn)?;
-            beds.push(CachePadded::new(new_bed()))?;
+            beds.push(CachePadded::new(Bed::new()))?;
         }
-        let awake = CachePadded::new(AtomicU64::new(beds.len() as u64));
+        let awake = Count::new(beds.len() as u64);
         Ok(Sleepers {
             routers,
             beds,
             awake,
-            mode: AtomicU64::new(RESTING),
+            mode: AtomicIn::new(Mode::Resting.code()),
         })
     }
 
@@ -126,41 +124,44 @@ impl Sleepers {
         Some(bed)
     }
 
+    fn mode(&self) -> Mode {
+        match self.mode.load(Ordering::SeqCst) {
+            0 => Mode::Resting,
+            1 => Mode::Hurried,
+            _ => Mode::Over,
+        }
+    }
+
     /// Whether workers still sleep if they find no work.
     pub fn is_at_rest(&self) -> bool {
-        self.mode.load(Ordering::SeqCst) == RESTING
+        self.mode() == Mode::Resting
     }
 
     /// Whether a router's worker sleeps.
     pub fn sleeps(&self, router: Asn) -> bool {
         match self.bed(router) {
-            Some(bed) => bed.state.load(Ordering::SeqCst) == ASLEEP,
+            Some(bed) => bed.rest() == Rest::Asleep,
             None => false,
         }
     }
 
-    // Makes a worker awake, whatever its state. It counts the worker before it is awake, and takes it off the count
-    // again if it did not sleep: the count is never less than the number of those that are awake.
+    // Makes a worker awake, whatever it does. It counts the worker before, and takes it off the count again if it did not
+    // sleep: the count is never less than the number of those that are awake.
     fn wake(&self, bed: &Bed) {
-        self.awake.fetch_add(1, Ordering::SeqCst);
-        if bed.state.swap(AWAKE, Ordering::SeqCst) == ASLEEP {
-            bed.parker.unpark();
-        } else {
-            self.awake.fetch_sub(1, Ordering::SeqCst);
+        if let Some(one) = bed.wake(self.awake.more()) {
+            self.awake.less(one);
         }
     }
 
     // Lets a worker that sleeps go on to what is due, and answers whether it slept. It counts as `wake` does.
     fn let_go(&self, bed: &Bed) -> bool {
-        self.awake.fetch_add(1, Ordering::SeqCst);
-        let state = &bed.state;
-        let was = state.compare_exchange(ASLEEP, GOING, Ordering::SeqCst, Ordering::SeqCst);
-        if was.is_ok() {
-            bed.parker.unpark();
-        } else {
-            self.awake.fetch_sub(1, Ordering::SeqCst);
+        match bed.let_go(self.awake.more()) {
+            Some(one) => {
+                self.awake.less(one);
+                false
+            }
+            None => true,
         }
-        was.is_ok()
     }
 
     // Lets all workers go on for which something is due, and answers whether there was any.
@@ -175,26 +176,28 @@ impl Sleepers {
     }
 
     // From here on no worker sleeps.
-    fn end_rest(&self, mode: u64) {
-        self.mode.store(mode, Ordering::SeqCst);
+    fn end_rest(&self, mode: Mode) {
+        self.mode.store(mode.code(), Ordering::SeqCst);
         for bed in self.beds.as_slice() {
             self.let_go(bed);
         }
     }
 
     // Takes a worker off the count of those awake. The last one lets others go on; it counts while it does, so that no
-    // other worker does so meanwhile.
-    fn one_less(&self) {
+    // other worker does so meanwhile. If nothing is due, it stays counted: from then on no worker sleeps.
+    fn one_less(&self, one: One) {
+        let mut own = one;
         for _ in 0..u32::MAX {
-            if self.awake.fetch_sub(1, Ordering::SeqCst) != 1 {
+            if !self.awake.less(own) {
                 return;
             }
-            self.awake.fetch_add(1, Ordering::SeqCst);
+            own = self.awake.more();
             if !self.let_go_to_due() {
-                self.end_rest(OVER);
-                return;
+                self.end_rest(Mode::Over);
+                break;
             }
         }
+        own.stay();
     }
 
     // Wakes the worker that an event may have given work: an item was put towards it, or it has room for one.
@@ -212,7 +215,7 @@ impl Sleepers {
         let Some(bed) = self.bed(router) else {
             return;
         };
-        if bed.state.load(Ordering::SeqCst) == AWAKE {
+        if bed.rest() == Rest::Awake {
             return;
         }
         if is_put || bed.is_blocked.load(Ordering::SeqCst) {
@@ -237,7 +240,7 @@ impl Sleepers {
 
     // Whether a worker that fell asleep sleeps on.
     fn is_asleep(&self, bed: &Bed) -> bool {
-        bed.state.load(Ordering::SeqCst) == ASLEEP && self.is_at_rest()
+        bed.rest() == Rest::Asleep && self.is_at_rest()
     }
 
     // Naps until it is woken, or another worker has done something between two naps, and answers whether it sleeps on.
@@ -258,7 +261,7 @@ impl Sleepers {
             }
             before = given;
         }
-        self.end_rest(HURRIED);
+        self.end_rest(Mode::Hurried);
         false
     }
 
@@ -270,7 +273,7 @@ impl Sleepers {
             }
             backoff.snooze();
         }
-        for _ in rt.forever() {
+        for _ in 0..u32::MAX {
             if !self.naps(rt, bed, due) {
                 return;
             }
@@ -280,37 +283,34 @@ impl Sleepers {
     // A drowsy worker falls asleep, unless it was woken meanwhile, and is awake again as the call returns.
     fn fall_asleep<R: Wait>(&self, rt: &R, bed: &Bed, due: u64) {
         bed.due.store(due, Ordering::SeqCst);
-        let state = &bed.state;
-        let was = state.compare_exchange(DROWSY, ASLEEP, Ordering::SeqCst, Ordering::SeqCst);
-        if was.is_err() {
-            return;
+        if let Some(own) = bed.fall_asleep() {
+            self.one_less(own);
+            self.sleep(rt, bed, due);
+            self.let_go(bed);
         }
-        self.one_less();
-        self.sleep(rt, bed, due);
-        self.let_go(bed);
     }
 
     // Takes note of a Turn that did nothing, with Turns next. Answers whether the worker goes on to what is due.
     fn rest<R: Wait>(&self, rt: &R, bed: &Bed, between: &Between<'_>) -> bool {
-        match bed.state.load(Ordering::SeqCst) {
-            AWAKE => {
+        match bed.rest() {
+            Rest::Awake => {
                 bed.is_blocked.store(between.is_blocked, Ordering::SeqCst);
-                bed.state.store(DROWSY, Ordering::SeqCst);
+                bed.nod();
                 false
             }
-            DROWSY => {
+            Rest::Drowsy => {
                 self.fall_asleep(rt, bed, due_of(between));
-                bed.state.load(Ordering::SeqCst) == GOING
+                bed.rest() == Rest::Going
             }
-            _ => true,
+            Rest::Asleep | Rest::Going => true,
         }
     }
 
     // Takes note that the worker did something, or that the next chore may be no Turn.
     fn go_on(&self, bed: &Bed, between: &Between<'_>) {
         bed.given.store(u64::from(between.given), Ordering::SeqCst);
-        if bed.state.load(Ordering::SeqCst) != AWAKE {
-            bed.state.store(AWAKE, Ordering::SeqCst);
+        if bed.rest() != Rest::Awake {
+            bed.go_on();
         }
         yield_where(between.done.is_empty());
     }
@@ -319,13 +319,13 @@ impl Sleepers {
     /// that chore did nothing and Turns are next. Answers whether nothing comes before the worker's next chore that is no
     /// Turn: the worker was let go to that chore, or nothing is to come at all.
     pub fn pause<R: Wait>(&self, rt: &R, between: &Between<'_>) -> bool {
-        match self.mode.load(Ordering::SeqCst) {
-            RESTING => {}
-            HURRIED => {
+        match self.mode() {
+            Mode::Resting => {}
+            Mode::Hurried => {
                 yield_where(between.done.is_empty());
                 return false;
             }
-            _ => return true,
+            Mode::Over => return true,
         }
         for entry in between.done {
             self.wake_for(&entry.event);
@@ -346,10 +346,10 @@ impl Sleepers {
             return;
         }
         for bed in self.beds.as_slice() {
-            if bed.state.load(Ordering::SeqCst) != AWAKE {
+            if bed.rest() != Rest::Awake {
                 self.wake(bed);
             }
         }
-        self.one_less();
+        self.one_less(One::ended());
     }
 }

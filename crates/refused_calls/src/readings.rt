@@ -1,6 +1,6 @@
 //! What the readers of a router say, as a text.
 
-use ranked_policy::{Asn, Network};
+use ranked_policy::{Asn, MOST_LINKS, Network};
 use router_core::Router;
 use router_model::RouterError;
 use std::alloc::{AllocError, Global};
@@ -36,6 +36,21 @@ fn next(alloc: Global, router: &Router<'_>, peer: Asn) -> Result<String, AllocEr
     }
 }
 
+// Whether the link to a peer is idle.
+fn is_quiet(router: &Router<'_>, peer: Asn) -> bool {
+    for place in 0..MOST_LINKS {
+        match router.peer_at(place) {
+            Some(other) => {
+                if other == peer {
+                    return router.link_is_idle_at(place, other);
+                }
+            }
+            None => return false,
+        }
+    }
+    false
+}
+
 // Appends what was acted on and sent, and what is put next.
 fn push_peer(
     alloc: Global,
@@ -46,7 +61,7 @@ fn push_peer(
     push(text, acted(alloc, router, peer))?;
     push(text, sent(alloc, router, peer))?;
     push(text, next(alloc, router, peer))?;
-    let (takes, quiet) = (router.may_take(peer), router.link_is_idle(peer));
+    let (takes, quiet) = (router.may_take(peer), is_quiet(router, peer));
     push(text, format!(in alloc; " takes {takes} quiet {quiet}"))
 }
 

@@ -36,9 +36,9 @@ pub(crate) fn place_of_peer(peers: &[Peer], asn: Asn) -> Option<usize>
         ((k : ℕ) (p : Peer) → slice_get peers.now k ≡ Some p → p.asn ≡ asn → ⊥)
         (λ k. (p : Peer) × (slice_get peers.now k ≡ Some p) × (p.asn ≡ asn)) }
 {
-    for (place, peer) in peers.iter().enumerate() {
+    for (peer_at, peer) in peers.iter().enumerate() {
         if peer.asn == asn {
-            return Some(place);
+            return Some(peer_at);
         }
     }
     None
@@ -58,15 +58,22 @@ fn announced_words(alloc: Global, update: &Update) -> Result<Vec<Word>, AllocErr
 }
 
 // Marks a place as undecided, unless its kept path is known to stay the best when a peer says this word.
-fn mark_heard(router: Asn, row: &Row, peer: usize, word: &Word, place: usize, dirty: &mut PlaceSet)
+fn mark_heard(
+    router: Asn,
+    row: &Row,
+    peer: usize,
+    word: &Word,
+    prefix_at: usize,
+    dirty: &mut PlaceSet,
+)
     requires peer { peer < length row.now.heard }
-    requires place { place < MOST_PREFIXES }
-    ensures here { has dirty.new place ≡ false
-        → (has dirty.old place ≡ false) × BestStays router row.now peer word.now }
-    ensures others { (other : ℕ) → other ≢ place → has dirty.new other ≡ has dirty.old other }
+    requires place { prefix_at < MOST_PREFIXES }
+    ensures here { has dirty.new prefix_at ≡ false
+        → (has dirty.old prefix_at ≡ false) × BestStays router row.now peer word.now }
+    ensures others { (other : ℕ) → other ≢ prefix_at → has dirty.new other ≡ has dirty.old other }
 {
-    if !dirty.has(place) && !stays_best(router, row, peer, word) {
-        dirty.put(place);
+    if !dirty.has(prefix_at) && !stays_best(router, row, peer, word) {
+        dirty.put(prefix_at);
     }
 }
 
@@ -90,9 +97,9 @@ pub(crate) fn hear_one(
     ensures rows { rows.new.items ≡ map (on prefix.now (hearing by.now.peer word)) rows.old.items }
     ensures dirty { StaysDecided by.now.router rows.old.items rows.new.items dirty.old dirty.new }
 {
-    if let Some(place) = place_of(by.keys, prefix) {
-        let row = &mut rows[place];
-        mark_heard(by.router, row, by.peer, &word, place, dirty);
+    if let Some(prefix_at) = place_of(by.keys, prefix) {
+        let row = &mut rows[prefix_at];
+        mark_heard(by.router, row, by.peer, &word, prefix_at, dirty);
         row.heard.set(by.peer, word);
     }
 }
@@ -171,10 +178,10 @@ pub(crate) fn forget_words(alloc: Global, rows: &mut [Row], dirty: &mut PlaceSet
     ensures rows { rows.new ≡ map (forgetting peer) rows.old }
     ensures dirty { MarksSpeaking peer rows.old dirty.old dirty.new }
 {
-    for place in 0..rows.len() {
-        let row = &mut rows[place];
+    for prefix_at in 0..rows.len() {
+        let row = &mut rows[prefix_at];
         if !row.heard.as_slice()[peer].path().is_empty() {
-            dirty.put(place);
+            dirty.put(prefix_at);
         }
         row.heard.set(peer, Word::Sequence(Path::new(alloc)));
         row.sent.set(peer, Word::Sequence(Path::new(alloc)));
@@ -187,9 +194,9 @@ pub(crate) fn mark_words(rows: &[Row], dirty: &mut PlaceSet, peer: usize)
     requires words { (i : ℕ) (r : Row) → slice_get rows.now i ≡ Some r → peer < length r.heard }
     ensures { MarksSpeaking peer rows.now dirty.old dirty.new }
 {
-    for (place, row) in rows.iter().enumerate() {
+    for (prefix_at, row) in rows.iter().enumerate() {
         if !row.heard.as_slice()[peer].path().is_empty() {
-            dirty.put(place);
+            dirty.put(prefix_at);
         }
     }
 }
@@ -202,31 +209,31 @@ pub(crate) fn unadvertised(rows: &[Row], peer: usize) -> PlaceSet
         → (has result i ≡ true ↔ (slice_get r.sent peer ≢ Some (Sequence r.kept))) }
 {
     let mut waiting = PlaceSet::new();
-    for (place, row) in rows.iter().enumerate() {
+    for (prefix_at, row) in rows.iter().enumerate() {
         if !row.sent.as_slice()[peer].tells(row.kept.as_slice()) {
-            waiting.put(place);
+            waiting.put(prefix_at);
         }
     }
     waiting
 }
 
 // Sets which peers wait for one place, after a change of its row.
-fn wait_anew(peers: &[Peer], row: &Row, place: usize, waits: &mut [PlaceSet])
-    requires place { place < MOST_PREFIXES }
+fn wait_anew(peers: &[Peer], row: &Row, prefix_at: usize, waits: &mut [PlaceSet])
+    requires place { prefix_at < MOST_PREFIXES }
     requires len { length waits.old ≡ length peers.now }
     requires sent { length row.now.sent ≡ length peers.now }
     ensures len { length waits.new ≡ length waits.old }
     ensures here { (k : ℕ) (p : Peer) (w : PlaceSet) → slice_get peers.now k ≡ Some p → slice_get waits.new k ≡ Some w
-        → (has w place ≡ true ↔ ((p.up ≡ true) × (slice_get row.now.sent k ≢ Some (Sequence row.now.kept)))) }
+        → (has w prefix_at ≡ true ↔ ((p.up ≡ true) × (slice_get row.now.sent k ≢ Some (Sequence row.now.kept)))) }
     ensures others { (k : ℕ) (w : PlaceSet) → slice_get waits.new k ≡ Some w
-        → (v : PlaceSet) × (slice_get waits.old k ≡ Some v) × ((i : ℕ) → i ≢ place → has w i ≡ has v i) }
+        → (v : PlaceSet) × (slice_get waits.old k ≡ Some v) × ((i : ℕ) → i ≢ prefix_at → has w i ≡ has v i) }
 {
     for (k, peer) in peers.iter().enumerate() {
         let waiting = &mut waits[k];
         if peer.up && !row.sent.as_slice()[k].tells(row.kept.as_slice()) {
-            waiting.put(place);
+            waiting.put(prefix_at);
         } else {
-            waiting.take_out(place);
+            waiting.take_out(prefix_at);
         }
     }
 }
@@ -243,12 +250,12 @@ pub(crate) fn forget_all(alloc: Global, rows: &mut Vec<Row>, dirty: &mut PlaceSe
 }
 
 // Sets whether the session with the peer at a place is Established.
-pub(crate) fn set_up(peers: &mut Vec<Peer>, place: usize, up: bool)
-    requires { place < length peers.old.items }
-    ensures { (p : Peer) → slice_get peers.old.items place ≡ Some p
-        → peers.new.items ≡ slice_set peers.old.items place (record { asn = p.asn; up = up }) }
+pub(crate) fn set_up(peers: &mut Vec<Peer>, peer_at: usize, up: bool)
+    requires { peer_at < length peers.old.items }
+    ensures { (p : Peer) → slice_get peers.old.items peer_at ≡ Some p
+        → peers.new.items ≡ slice_set peers.old.items peer_at (record { asn = p.asn; up = up }) }
 {
-    peers[place].up = up;
+    peers[peer_at].up = up;
 }
 
 // Keeps a path for the prefix at a place, and sets which peers wait for it. Answers the prefix.
@@ -256,47 +263,47 @@ pub(crate) fn keep_at(
     peers: &[Peer],
     rows: &mut Vec<Row>,
     waits: &mut Vec<PlaceSet>,
-    place: usize,
+    prefix_at: usize,
     path: Path,
 ) -> Prefix
-    requires within { place < length rows.old.items }
-    requires place { place < MOST_PREFIXES }
+    requires within { prefix_at < length rows.old.items }
+    requires place { prefix_at < MOST_PREFIXES }
     requires len { length waits.old.items ≡ length peers.now }
-    requires sent { (r : Row) → slice_get rows.old.items place ≡ Some r → length r.sent ≡ length peers.now }
-    ensures prefix { (r : Row) → slice_get rows.old.items place ≡ Some r → result ≡ r.prefix }
-    ensures rows { (r : Row) → slice_get rows.old.items place ≡ Some r
-        → rows.new.items ≡ slice_set rows.old.items place (keeping path r) }
+    requires sent { (r : Row) → slice_get rows.old.items prefix_at ≡ Some r → length r.sent ≡ length peers.now }
+    ensures prefix { (r : Row) → slice_get rows.old.items prefix_at ≡ Some r → result ≡ r.prefix }
+    ensures rows { (r : Row) → slice_get rows.old.items prefix_at ≡ Some r
+        → rows.new.items ≡ slice_set rows.old.items prefix_at (keeping path r) }
     ensures len { length waits.new.items ≡ length waits.old.items }
-    ensures here { (r : Row) (k : ℕ) (p : Peer) (w : PlaceSet) → slice_get rows.old.items place ≡ Some r
+    ensures here { (r : Row) (k : ℕ) (p : Peer) (w : PlaceSet) → slice_get rows.old.items prefix_at ≡ Some r
         → slice_get peers.now k ≡ Some p → slice_get waits.new.items k ≡ Some w
-        → (has w place ≡ true ↔ ((p.up ≡ true) × (slice_get r.sent k ≢ Some (Sequence path)))) }
+        → (has w prefix_at ≡ true ↔ ((p.up ≡ true) × (slice_get r.sent k ≢ Some (Sequence path)))) }
     ensures others { (k : ℕ) (w : PlaceSet) → slice_get waits.new.items k ≡ Some w
-        → (v : PlaceSet) × (slice_get waits.old.items k ≡ Some v) × ((i : ℕ) → i ≢ place → has w i ≡ has v i) }
+        → (v : PlaceSet) × (slice_get waits.old.items k ≡ Some v) × ((i : ℕ) → i ≢ prefix_at → has w i ≡ has v i) }
 {
-    let row = &mut rows[place];
+    let row = &mut rows[prefix_at];
     row.kept = path;
-    wait_anew(peers, row, place, waits.as_mut_slice());
+    wait_anew(peers, row, prefix_at, waits.as_mut_slice());
     row.prefix
 }
 
 // Records the word sent to a peer for the prefix at a place.
-pub(crate) fn tell_at(rows: &mut Vec<Row>, place: usize, peer: usize, word: Word)
-    requires within { place < length rows.old.items }
-    requires words { (r : Row) → slice_get rows.old.items place ≡ Some r → peer < length r.sent }
-    ensures { (r : Row) → slice_get rows.old.items place ≡ Some r
-        → rows.new.items ≡ slice_set rows.old.items place (telling peer word r) }
+pub(crate) fn tell_at(rows: &mut Vec<Row>, prefix_at: usize, peer: usize, word: Word)
+    requires within { prefix_at < length rows.old.items }
+    requires words { (r : Row) → slice_get rows.old.items prefix_at ≡ Some r → peer < length r.sent }
+    ensures { (r : Row) → slice_get rows.old.items prefix_at ≡ Some r
+        → rows.new.items ≡ slice_set rows.old.items prefix_at (telling peer word r) }
 {
-    let row = &mut rows[place];
+    let row = &mut rows[prefix_at];
     row.sent.set(peer, word);
 }
 
 // Sets whether the router originates the prefix at a place.
-pub(crate) fn originate_at(rows: &mut Vec<Row>, place: usize, now: bool)
-    requires { place < length rows.old.items }
-    ensures { (r : Row) → slice_get rows.old.items place ≡ Some r
-        → rows.new.items ≡ slice_set rows.old.items place (originating now r) }
+pub(crate) fn originate_at(rows: &mut Vec<Row>, prefix_at: usize, now: bool)
+    requires { prefix_at < length rows.old.items }
+    ensures { (r : Row) → slice_get rows.old.items prefix_at ≡ Some r
+        → rows.new.items ≡ slice_set rows.old.items prefix_at (originating now r) }
 {
-    let row = &mut rows[place];
+    let row = &mut rows[prefix_at];
     row.originated = now;
 }
 
@@ -306,22 +313,22 @@ pub(crate) fn clear_all(alloc: Global, rows: &mut Vec<Row>, dirty: &mut PlaceSet
     ensures rows { rows.new.items ≡ map clearing rows.old.items }
     ensures dirty { (i : ℕ) → i < length rows.old.items → has dirty.new i ≡ true }
 {
-    for place in 0..rows.len() {
-        let row = &mut rows[place];
+    for prefix_at in 0..rows.len() {
+        let row = &mut rows[prefix_at];
         row.kept = Path::new(alloc);
         row.originated = false;
-        dirty.put(place);
+        dirty.put(prefix_at);
     }
 }
 
 // The places that a peer waits for. It takes no memory.
-fn waiting_now(peer: &Peer, rows: &[Row], place: usize) -> PlaceSet
+fn waiting_now(peer: &Peer, rows: &[Row], peer_at: usize) -> PlaceSet
     requires few { length rows.now ≤ MOST_PREFIXES }
-    requires words { (i : ℕ) (r : Row) → slice_get rows.now i ≡ Some r → place < length r.sent }
-    ensures { IsWaiting place peer.now rows.now result }
+    requires words { (i : ℕ) (r : Row) → slice_get rows.now i ≡ Some r → peer_at < length r.sent }
+    ensures { IsWaiting peer_at peer.now rows.now result }
 {
     if peer.up {
-        unadvertised(rows, place)
+        unadvertised(rows, peer_at)
     } else {
         PlaceSet::new()
     }
@@ -334,7 +341,7 @@ pub(crate) fn wait_after_all(peers: &[Peer], rows: &[Row], waits: &mut Vec<Place
     requires len { length waits.old.items ≡ length peers.now }
     ensures { AreWaiting peers.now rows.now waits.new.items }
 {
-    for (place, peer) in peers.iter().enumerate() {
-        waits[place] = waiting_now(peer, rows, place);
+    for (peer_at, peer) in peers.iter().enumerate() {
+        waits[peer_at] = waiting_now(peer, rows, peer_at);
     }
 }

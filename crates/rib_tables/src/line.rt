@@ -45,12 +45,12 @@ impl Line {
     }
 
     // The word at a place. `None` if it is the empty path.
-    pub(crate) fn something(&self, place: usize) -> Option<&Word>
-        requires { place < length self.now }
-        ensures { MatchOption result (slice_get self.now place ≡ Some nothing)
-            (λ word. (slice_get self.now place ≡ Some word.now) × (word.now ≢ nothing)) }
+    pub(crate) fn something(&self, peer_at: usize) -> Option<&Word>
+        requires { peer_at < length self.now }
+        ensures { MatchOption result (slice_get self.now peer_at ≡ Some nothing)
+            (λ word. (slice_get self.now peer_at ≡ Some word.now) × (word.now ≢ nothing)) }
     {
-        let word = &self.words[place];
+        let word = &self.words[peer_at];
         if word.is_nothing() {
             return None;
         }
@@ -58,10 +58,10 @@ impl Line {
     }
 
     // Replaces the word at a place.
-    pub(crate) fn set(&mut self, place: usize, word: Word)
-        requires { place < length self.old }
-        ensures { self.new ≡ slice_set self.old place word }
+    pub(crate) fn set(&mut self, peer_at: usize, word: Word)
+        requires { peer_at < length self.old }
+        ensures { self.new ≡ slice_set self.old peer_at word }
     {
-        self.words[place] = word;
+        self.words[peer_at] = word;
     }
 }

@@ -115,8 +115,8 @@ impl<'a> Rib<'a> {
             (λ word. (word.now ≡ word_of words peer prefix.now) × (word.now ≢ nothing)) }
     {
         let from = place_of_peer(self.peers.as_slice(), peer)?;
-        let place = place_of(&self.keys, prefix)?;
-        self.rows[place].line(sent).something(from)
+        let prefix_at = place_of(&self.keys, prefix)?;
+        self.rows[prefix_at].line(sent).something(from)
     }
 
     /// The word heard last from a peer for a prefix. `None` exactly where it is the empty path.
@@ -140,17 +140,17 @@ impl<'a> Rib<'a> {
         ensures { result.now ≡ path_of self.now.kept prefix.now }
     {
         match place_of(&self.keys, prefix) {
-            Some(place) => self.path_at(place, prefix),
+            Some(prefix_at) => self.path_at(prefix_at, prefix),
             None => &[],
         }
     }
 
     /// Answers as [`Rib::path`] does, of the prefix at the place `at` of [`Network::origins`].
-    pub fn path_at(&self, at: usize, prefix: &Prefix) -> &[Asn]
-        requires stands { slice_get (map (λ origin. origin.prefix) self.now.net.origins) at ≡ Some prefix.now }
+    pub fn path_at(&self, prefix_at: usize, prefix: &Prefix) -> &[Asn]
+        requires stands { slice_get (map (λ origin. origin.prefix) self.now.net.origins) prefix_at ≡ Some prefix.now }
         ensures { result.now ≡ path_of self.now.kept prefix.now }
     {
-        self.rows[at].kept.as_slice()
+        self.rows[prefix_at].kept.as_slice()
     }
 
     /// Whether the router originates a prefix now.
@@ -158,17 +158,17 @@ impl<'a> Rib<'a> {
         ensures { IsTrue result ↔ Contains self.now.originated prefix.now }
     {
         match place_of(&self.keys, prefix) {
-            Some(place) => self.is_originated_at(place, prefix),
+            Some(prefix_at) => self.is_originated_at(prefix_at, prefix),
             None => false,
         }
     }
 
     /// Answers as [`Rib::is_originated`] does, of the prefix at the place `at` of [`Network::origins`].
-    pub fn is_originated_at(&self, at: usize, prefix: &Prefix) -> bool
-        requires stands { slice_get (map (λ origin. origin.prefix) self.now.net.origins) at ≡ Some prefix.now }
+    pub fn is_originated_at(&self, prefix_at: usize, prefix: &Prefix) -> bool
+        requires stands { slice_get (map (λ origin. origin.prefix) self.now.net.origins) prefix_at ≡ Some prefix.now }
         ensures { IsTrue result ↔ Contains self.now.originated prefix.now }
     {
-        self.rows[at].originated
+        self.rows[prefix_at].originated
     }
 
     /// Takes an UPDATE of a peer (RFC 4271 sections 3.1 and 4.3). Each prefix of the network that the UPDATE mentions
@@ -179,14 +179,14 @@ impl<'a> Rib<'a> {
         ensures ok { OnOk result (HearsUpdate self.old self.new peer update.now) }
         ensures err { OnErr result (self.new ≡ self.old) }
     {
-        let place = self.peer_place(peer);
-        self.hear_at(place, peer, update)
+        let peer_at = self.peer_place(peer);
+        self.hear_at(peer_at, peer, update)
     }
 
     /// Does what [`Rib::hear`] does, and is refused as it is, for the peer at a place among the router's peers, by
     /// rising number.
-    pub fn hear_at(&mut self, place: usize, peer: Asn, update: &Update) -> Result<(), AllocError>
-        requires stands { slice_get (peers self.old.net self.old.router) place ≡ Some peer }
+    pub fn hear_at(&mut self, peer_at: usize, peer: Asn, update: &Update) -> Result<(), AllocError>
+        requires stands { slice_get (peers self.old.net self.old.router) peer_at ≡ Some peer }
         ensures ok { OnOk result (HearsUpdate self.old self.new peer update.now) }
         ensures err { OnErr result (self.new ≡ self.old) }
     {
@@ -194,7 +194,7 @@ impl<'a> Rib<'a> {
         let by = Listener {
             router: self.router,
             keys: &self.keys,
-            peer: place,
+            peer: peer_at,
         };
         hear_update(alloc, &by, &mut self.rows, &mut self.dirty, update)?;
         Ok(())
@@ -205,12 +205,12 @@ impl<'a> Rib<'a> {
     /// was.
     pub fn hear_path_at(
         &mut self,
-        place: usize,
+        peer_at: usize,
         peer: Asn,
         prefix: &Prefix,
         path: &[Asn],
     ) -> Result<(), AllocError>
-        requires stands { slice_get (peers self.old.net self.old.router) place ≡ Some peer }
+        requires stands { slice_get (peers self.old.net self.old.router) peer_at ≡ Some peer }
         ensures ok { OnOk result
             ((u : updates.Update) → TellsPath u prefix.now path.now → HearsUpdate self.old self.new peer u) }
         ensures err { OnErr result (self.new ≡ self.old) }
@@ -220,7 +220,7 @@ impl<'a> Rib<'a> {
         let by = Listener {
             router: self.router,
             keys: &self.keys,
-            peer: place,
+            peer: peer_at,
         };
         hear_one(&by, &mut self.rows, &mut self.dirty, prefix, word);
         Ok(())
@@ -230,21 +230,21 @@ impl<'a> Rib<'a> {
     /// at the place `at` of [`Network::origins`]. Refused only for want of memory, and then all is as it was.
     pub fn tell_at(
         &mut self,
-        place: usize,
+        peer_at: usize,
         peer: Asn,
-        at: usize,
+        prefix_at: usize,
         prefix: &Prefix,
     ) -> Result<(), AllocError>
-        requires stands { slice_get (peers self.old.net self.old.router) place ≡ Some peer }
-        requires named { slice_get (map (λ origin. origin.prefix) self.old.net.origins) at ≡ Some prefix.now }
+        requires stands { slice_get (peers self.old.net self.old.router) peer_at ≡ Some peer }
+        requires named { slice_get (map (λ origin. origin.prefix) self.old.net.origins) prefix_at ≡ Some prefix.now }
         ensures ok { OnOk result (TellsKept self.old self.new peer prefix.now) }
         ensures err { OnErr result (self.new ≡ self.old) }
     {
         let alloc = *self.peers.allocator();
-        let path = Path::from_slice(alloc, self.rows[at].kept.as_slice())?;
-        tell_at(&mut self.rows, at, place, Word::Sequence(path));
-        let waiting = &mut self.waits[place];
-        waiting.take_out(at);
+        let path = Path::from_slice(alloc, self.rows[prefix_at].kept.as_slice())?;
+        tell_at(&mut self.rows, prefix_at, peer_at, Word::Sequence(path));
+        let waiting = &mut self.waits[peer_at];
+        waiting.take_out(prefix_at);
         Ok(())
     }
 
@@ -253,19 +253,19 @@ impl<'a> Rib<'a> {
         requires { Linked self.old.net.links self.old.router peer }
         ensures { ComesUp self.old self.new peer }
     {
-        let place = self.peer_place(peer);
-        self.come_up_at(place, peer);
+        let peer_at = self.peer_place(peer);
+        self.come_up_at(peer_at, peer);
     }
 
     /// Does what [`Rib::come_up`] does, for the peer at a place among the router's peers, by rising number. It takes no
     /// memory.
-    pub fn come_up_at(&mut self, place: usize, peer: Asn)
-        requires stands { slice_get (peers self.old.net self.old.router) place ≡ Some peer }
+    pub fn come_up_at(&mut self, peer_at: usize, peer: Asn)
+        requires stands { slice_get (peers self.old.net self.old.router) peer_at ≡ Some peer }
         ensures { ComesUp self.old self.new peer }
     {
-        mark_words(self.rows.as_slice(), &mut self.dirty, place);
-        set_up(&mut self.peers, place, true);
-        self.waits[place] = unadvertised(self.rows.as_slice(), place);
+        mark_words(self.rows.as_slice(), &mut self.dirty, peer_at);
+        set_up(&mut self.peers, peer_at, true);
+        self.waits[peer_at] = unadvertised(self.rows.as_slice(), peer_at);
     }
 
     /// Records that the session with a peer is left, and forgets all words heard from it and sent to it. It takes no
@@ -274,20 +274,20 @@ impl<'a> Rib<'a> {
         requires { Linked self.old.net.links self.old.router peer }
         ensures { ForgetsPeer self.old self.new peer }
     {
-        let place = self.peer_place(peer);
-        self.forget_at(place, peer);
+        let peer_at = self.peer_place(peer);
+        self.forget_at(peer_at, peer);
     }
 
     /// Does what [`Rib::forget`] does, for the peer at a place among the router's peers, by rising number. It takes no
     /// memory.
-    pub fn forget_at(&mut self, place: usize, peer: Asn)
-        requires stands { slice_get (peers self.old.net self.old.router) place ≡ Some peer }
+    pub fn forget_at(&mut self, peer_at: usize, peer: Asn)
+        requires stands { slice_get (peers self.old.net self.old.router) peer_at ≡ Some peer }
         ensures { ForgetsPeer self.old self.new peer }
     {
         let alloc = *self.peers.allocator();
-        forget_all(alloc, &mut self.rows, &mut self.dirty, place);
-        set_up(&mut self.peers, place, false);
-        self.waits[place] = PlaceSet::new();
+        forget_all(alloc, &mut self.rows, &mut self.dirty, peer_at);
+        set_up(&mut self.peers, peer_at, false);
+        self.waits[peer_at] = PlaceSet::new();
     }
 
     // Originates a prefix from now on, or no longer.
@@ -296,9 +296,9 @@ impl<'a> Rib<'a> {
         ensures originating { now ≡ true → Originating self.old self.new prefix.now }
         ensures withdrawing { now ≡ false → Withdrawing self.old self.new prefix.now }
     {
-        let place = place_of(&self.keys, prefix).unwrap();
-        originate_at(&mut self.rows, place, now);
-        self.dirty.put(place);
+        let prefix_at = place_of(&self.keys, prefix).unwrap();
+        originate_at(&mut self.rows, prefix_at, now);
+        self.dirty.put(prefix_at);
     }
 
     /// Originates a prefix from now on. It takes no memory.
@@ -334,8 +334,8 @@ impl<'a> Rib<'a> {
         requires { IsNamed self.now.net.origins prefix.now }
         ensures { IfOk result (IsBest (sources_of self.now) prefix.now) }
     {
-        let place = place_of(&self.keys, prefix).unwrap();
-        let way = best_way(self.router, self.peers.as_slice(), &self.rows[place]);
+        let prefix_at = place_of(&self.keys, prefix).unwrap();
+        let way = best_way(self.router, self.peers.as_slice(), &self.rows[prefix_at]);
         path_along(alloc, self.router, way)
     }
 
@@ -349,8 +349,8 @@ impl<'a> Rib<'a> {
         let mut dirty = self.dirty;
         let peers = self.peers.as_slice();
         let rows = self.rows.as_slice();
-        let (place, _) = first_undecided(self.router, peers, rows, &mut dirty)?;
-        Some(self.rows[place].prefix)
+        let (prefix_at, _) = first_undecided(self.router, peers, rows, &mut dirty)?;
+        Some(self.rows[prefix_at].prefix)
     }
 
     /// Decides one prefix (RFC 4271 section 9.1): the least of the network, by address and then by length, whose kept
@@ -372,12 +372,12 @@ impl<'a> Rib<'a> {
         let peers = self.peers.as_slice();
         let rows = self.rows.as_slice();
         let found = first_undecided(self.router, peers, rows, &mut self.dirty);
-        let Some((place, way)) = found else {
+        let Some((prefix_at, way)) = found else {
             return Ok(None);
         };
         let best = path_along(alloc, self.router, way)?;
-        let prefix = keep_at(peers, &mut self.rows, &mut self.waits, place, best);
-        self.dirty.take_out(place);
+        let prefix = keep_at(peers, &mut self.rows, &mut self.waits, prefix_at, best);
+        self.dirty.take_out(prefix_at);
         Ok(Some(prefix))
     }
 
@@ -395,18 +395,18 @@ impl<'a> Rib<'a> {
 
     /// Answers as [`Rib::waiting`] does, of the peer at a place among the router's peers, by rising number. In front of
     /// the prefix stands its place among [`Network::origins`].
-    pub fn waiting_at(&self, place: usize, peer: Asn) -> Option<(usize, Prefix)>
-        requires stands { slice_get (peers self.now.net self.now.router) place ≡ Some peer }
+    pub fn waiting_at(&self, peer_at: usize, peer: Asn) -> Option<(usize, Prefix)>
+        requires stands { slice_get (peers self.now.net self.now.router) peer_at ≡ Some peer }
         ensures least { MatchOption result (HoldsOfAll self.now.net.origins (IsServed self.now peer))
             (λ found. IsLeastWithout self.now.net.origins (IsServed self.now peer) found.1) }
         ensures named { IfSome result
             (λ found. slice_get (map (λ origin. origin.prefix) self.now.net.origins) found.0 ≡ Some found.1) }
     {
-        let at = self.waits[place].first()?;
-        if at >= self.rows.len() {
+        let prefix_at = self.waits[peer_at].first()?;
+        if prefix_at >= self.rows.len() {
             return None;
         }
-        Some((at, self.rows[at].prefix))
+        Some((prefix_at, self.rows[prefix_at].prefix))
     }
 
     /// Whether some Established peer was not told some kept path. It takes no memory.

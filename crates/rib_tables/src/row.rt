@@ -65,9 +65,11 @@ pub(crate) fn best_way<'r>(router: Asn, peers: &[Peer], row: &'r Row) -> Option<
     }
     let heard = row.heard.as_slice();
     let mut best: &[Asn] = &[];
-    for (place, peer) in peers.iter().enumerate() {
+    for (peer_at, peer) in peers.iter().enumerate() {
         if peer.up {
-            best = row.policy.better_onward(router, heard[place].path(), best);
+            best = row
+                .policy
+                .better_onward(router, heard[peer_at].path(), best);
         }
     }
     if best.is_empty() { None } else { Some(best) }
@@ -107,16 +109,16 @@ pub(crate) fn first_undecided<'r>(
 {
     each_policy_is_an_order();
     for _ in 0..MOST_PREFIXES {
-        let place = dirty.first()?;
-        if place >= rows.len() {
+        let prefix_at = dirty.first()?;
+        if prefix_at >= rows.len() {
             return None;
         }
-        let row = &rows[place];
+        let row = &rows[prefix_at];
         let way = best_way(router, peers, row);
         if !goes_on(row.kept.as_slice(), router, way) {
-            return Some((place, way));
+            return Some((prefix_at, way));
         }
-        dirty.take_out(place);
+        dirty.take_out(prefix_at);
     }
     None
 }

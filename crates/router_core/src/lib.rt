@@ -19,7 +19,6 @@ mod peers;
 mod router;
 mod tables;
 
-pub use opening::is_peer;
 pub use outbox::{Item, PieceOctets, What};
 pub use router::{Call, Router};
 pub use router_model::{Command, RouterError, Stepped};

@@ -6,7 +6,7 @@ ghost use Rattle.bgp_values.specs.declared.width.Width as widths;
 ghost use Rattle.bgp_values.specs.Ranges.{IsHoldTime, IsUnicast};
 ghost use Rattle.bgp_codec.specs.declared.message.Message.TheVariants.{OpenMsg};
 ghost use Rattle.ranked_policy.specs.Plans.{IsRouter};
-ghost use Rattle.router_model.specs.Settings.{linked, peers};
+ghost use Rattle.router_model.specs.Settings.{peers};
 ghost use Rattle.router_model.specs.State.{asn_field, params_of, open_of};
 ghost use Rattle.router_side.specs.Sayings.{IsSayable};
 ghost use Rattle.router_side.specs.SideOf.{side, side_opening};
@@ -16,7 +16,7 @@ use bgp_codec::laws::written_has_a_header;
 use bgp_codec::{Cap, Items, Message, Octets, Open};
 use bgp_values::{AS_TRANS, FOUR_OCTET_ASN, Width, greatest_asn};
 use ranked_policy::{Asn, Network};
-use router_side::SideEnd;
+use router_side::Side;
 use session_fsm::SessionConfig;
 use std::alloc::{AllocError, Global};
 
@@ -73,13 +73,6 @@ pub(crate) fn own_open(alloc: Global, network: &Network, number: Asn) -> Message
     open_message(alloc, settings.width, number, settings.hold, router.id)
 }
 
-/// Whether a link joins two routers: each is the other's peer.
-pub fn is_peer(network: &Network, number: Asn, other: Asn) -> bool
-    ensures { result ≡ linked network.now number other }
-{
-    network.linked(number, other)
-}
-
 /// The linked routers by rising number. Nothing was said yet towards any of them.
 pub(crate) fn new_peers(
     alloc: Global,
@@ -94,7 +87,7 @@ pub(crate) fn new_peers(
 {
     let mut made = Vec::new(alloc);
     for link in network.links_of(number) {
-        let end = SideEnd::new(alloc, config, network.settings().width)?;
+        let end = Side::new(alloc, config, network.settings().width)?;
         made.push(Peer {
             number: link.other,
             end,

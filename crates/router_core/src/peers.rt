@@ -5,13 +5,13 @@ ghost use Rattle.std.specs.List.{position};
 ghost use Rattle.router_core.specs.Views.{is_number};
 
 use ranked_policy::Asn;
-use router_side::SideEnd;
+use router_side::Side;
 
 /// A peer: its number, and the side towards it.
 #[derive(Drop)]
 pub(crate) struct Peer {
     pub number: Asn,
-    pub end: SideEnd,
+    pub end: Side,
 }
 
 /// The place of a number.

@@ -148,9 +148,9 @@ impl<'a> Router<'a> {
     // The place of a peer.
     fn find(&self, peer: Asn) -> Option<usize>
         ensures place { MatchOption result (listed peer self.now.peers ≡ false) (IsFound self.now.peers peer) }
-        ensures stands { IfSome result (λ at. slice_get (peers self.now.net self.now.number) at ≡ Some peer) }
+        ensures stands { IfSome result (λ peer_at. slice_get (peers self.now.net self.now.number) peer_at ≡ Some peer) }
         ensures none { MatchOption result (linked self.now.net self.now.number peer ≡ false)
-            (λ at. linked self.now.net self.now.number peer ≡ true) }
+            (λ peer_at. linked self.now.net self.now.number peer ≡ true) }
     {
         place_of(self.peers.as_slice(), peer)
     }

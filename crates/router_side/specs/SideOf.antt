@@ -13,11 +13,11 @@ use Rattle.run_model.specs.Links.{Says}
 use Rattle.outbox.specs.Items.{next_item, left_behind}
 use Rattle.router_model.specs.Sides.{Side, AtHand, Draft, appended, at_hand, draft_of, front}
 use Rattle.router_side.specs.declared.draft.SideDraft.{SideDraft}
-use Rattle.router_side.specs.declared.side.SideEnd.{SideEnd}
+use Rattle.router_side.specs.declared.side.Side.{Side as CodeSide}
 use Rattle.router_side.specs.Histories.{history, told_with}
 use Rattle.router_side.specs.Sayings.{size_where, all_sizes, update_in, acted_where}
 
-abbrev pub side : SideEnd → Side
+abbrev pub side : CodeSide → Side
 side s = record {
   session = s.session;
   link = s.link;
@@ -41,14 +41,14 @@ abbrev pub IsInFront : Width → List ℕ → AtHand → Type 0
 IsInFront width octets h = (u : ℕ) × (v : ℕ) × (h ≡ at_hand (front (naming width u v) octets))
 
 -- a draft can be carried out without memory
-pub record HasRoom (own_open : Message) (told : Option Message) (a : SideDraft) (s : SideEnd) : Type 0 where
+pub record HasRoom (own_open : Message) (told : Option Message) (a : SideDraft) (s : CodeSide) : Type 0 where
   pub octets : all_sizes (length (written s.width own_open)) (size_where s.width told) a.says ≤ s.outbox.room
   pub places : length a.says ≤ s.outbox.places
   pub acted : MESSAGE_LIMIT ≤ s.acted.room
   pub acted_places : 1 ≤ s.acted.places
 
 -- the second side has at least the room of the first
-pub record KeepsRoom (s t : SideEnd) : Type 0 where
+pub record KeepsRoom (s t : CodeSide) : Type 0 where
   pub octets : s.outbox.room ≤ t.outbox.room
   pub places : s.outbox.places ≤ t.outbox.places
   pub acted : s.acted.room ≤ t.acted.room
@@ -65,18 +65,18 @@ abbrev pub told_by : Side → Message → Side
 told_by s m = record (appended s (Says s.link.epoch m)) { session = sessions.kept_alive s.session; sent = acted_where true (update_in m) s.link.epoch s.sent }
 
 -- a message can be told without memory
-pub record HasRoomToTell (m : Message) (s : SideEnd) : Type 0 where
+pub record HasRoomToTell (m : Message) (s : CodeSide) : Type 0 where
   pub octets : length (written s.width m) ≤ s.outbox.room
   pub places : 1 ≤ s.outbox.places
   pub sent : length (written s.width m) ≤ s.sent.room
   pub sent_places : 1 ≤ s.sent.places
 
 -- a marker can be appended without memory
-abbrev pub HasRoomToMark : SideEnd → Type 0
+abbrev pub HasRoomToMark : CodeSide → Type 0
 HasRoomToMark s = 1 ≤ s.outbox.places
 
 -- an UPDATE can be acted on without memory
-pub record HasRoomToAct (s : SideEnd) : Type 0 where
+pub record HasRoomToAct (s : CodeSide) : Type 0 where
   pub acted : MESSAGE_LIMIT ≤ s.acted.room
   pub acted_places : 1 ≤ s.acted.places
 

@@ -24,7 +24,7 @@ use std::alloc::{AllocError, Global};
 
 /// One side of a router.
 #[derive(Drop)]
-pub struct SideEnd {
+pub struct Side {
     session: Session,
     link: LinkEnd,
     framer: Framer,
@@ -36,15 +36,15 @@ pub struct SideEnd {
     width: Width,
 }
 
-impl SideEnd {
+impl Side {
     /// A side whose session is Idle, and towards whose peer nothing was ever said. It is refused only for want of
     /// memory.
-    pub fn new(alloc: Global, config: SessionConfig, width: Width) -> Result<SideEnd, AllocError>
+    pub fn new(alloc: Global, config: SessionConfig, width: Width) -> Result<Side, AllocError>
         requires { IsHoldTime config.hold }
         ensures { IfOk result (λ made. side made ≡ side_opening config width) }
     {
         let framer = Framer::new(alloc)?;
-        Ok(SideEnd {
+        Ok(Side {
             session: Session::new(config),
             link: LinkEnd::new(),
             framer,

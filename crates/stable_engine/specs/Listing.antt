@@ -1,5 +1,5 @@
 -- The text printed of all stable assignments of a network for a prefix.
-use Rattle.std.specs.Prelude.{ℕ, ◌==◌, ◌+◌, ◌^◌, nat_lt, not, Bool, List, [], ◌∷◌, ◌++◌, filter, length, codes, decimal, if◌then◌else◌}
+use Rattle.std.specs.Prelude.{ℕ, ◌==◌, ◌&&◌, ◌+◌, ◌^◌, nat_lt, not, Bool, List, [], ◌∷◌, ◌++◌, filter, length, codes, decimal, if◌then◌else◌}
 use Rattle.std.specs.List.{flat_map}
 use Rattle.prefix_lanes.specs.Bits.{PrefixView}
 use Rattle.ranked_policy.specs.declared.network.NetRouter.{NetRouter}
@@ -28,6 +28,10 @@ dispute_line i q n us = line (codes "dispute " ++ (decimal i ++ (prefix_text q +
 unfoldable pub choice_line : List (List ℕ) → List ℕ
 choice_line paths = line (codes "choice" ++ paths_behind paths)
 
+-- routers that follow, and their paths
+unfoldable pub follow_line : PrefixView → List ℕ → List (List (List ℕ)) → List ℕ
+follow_line q us choices = line (codes "follow" ++ (marked 32 us ++ (prefix_text q ++ flat_map paths_behind choices)))
+
 -- a prefix of which not all is known, and why: a word, and routers behind it
 unfoldable pub unknown_line : PrefixView → List ℕ → List ℕ → List ℕ
 unknown_line q why us = line (codes "prefix" ++ (prefix_text q ++ (codes " unknown " ++ (why ++ marked 32 us))))
@@ -55,7 +59,7 @@ routes_text q routers parts = flat_map (λ r. routes_of q r.asn parts) routers
 -- ---- disputes
 
 abbrev pub is_dispute : Component → Bool
-is_dispute part = not (length part.choices == 1)
+is_dispute part = not part.follows && not (length part.choices == 1)
 
 abbrev pub choices_text : List (List (List ℕ)) → List ℕ
 choices_text choices = flat_map choice_line choices
@@ -68,7 +72,17 @@ abbrev pub disputes_text : ℕ → PrefixView → List Component → List ℕ
 disputes_text i q [] = []
 disputes_text i q (part ∷ parts) = dispute_text i q part ++ disputes_text (i + 1) q parts
 
+-- ---- routers that follow
+
+abbrev pub follow_text : PrefixView → Component → List ℕ
+follow_text q part = if part.follows then follow_line q part.routers part.choices else []
+
+abbrev pub follows_text : PrefixView → List Component → List ℕ
+follows_text q parts = flat_map (λ part. follow_text q part) parts
+
 -- ---- a prefix
 
 abbrev pub every_text : PrefixView → List NetRouter → List Component → List ℕ
-every_text q routers parts = prefix_line q (number_of parts) ++ (routes_text q routers parts ++ disputes_text 1 q (filter is_dispute parts))
+every_text q routers parts =
+    prefix_line q (number_of parts)
+    ++ (routes_text q routers parts ++ (disputes_text 1 q (filter is_dispute parts) ++ follows_text q parts))

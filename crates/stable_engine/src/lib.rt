@@ -1,9 +1,10 @@
 //! The engine of `bgpnet stable`: it reads a network, and writes all of its stable assignments.
 //!
 //! The contract of `bgpnet stable` is that of [`text_engines::answer_input`] over a [`StableEngine`]. For the prefix of
-//! each origin, an assignment is stable exactly where each router of a `route` line has its path, and the routers of
-//! each dispute have one of its choices; or the line says which limit was met. The definitions stand in `specs/`:
-//! `Listing` (the lines of a prefix) and `Answers` (the text of a network and of an input).
+//! each origin, in a stable assignment each router of a `route` line has its path, the routers of each dispute have one
+//! of its choices, and a router of a `follow` line has one of its paths; to any choices of the disputes belongs exactly
+//! one stable assignment. Or the line says which limit was met. The definitions stand in `specs/`: `Listing` (the lines
+//! of a prefix) and `Answers` (the text of a network and of an input).
 //!
 //! Left out: the search, which is `stable_search`'s; dispute wheels.
 #![tactic(auto)]

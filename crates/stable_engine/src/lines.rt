@@ -3,11 +3,12 @@
 
 ghost use Rattle.std.specs.Prelude.{◌≡◌, ◌++◌, OnOk};
 ghost use Rattle.stable_search.specs.Every.{number_of};
-ghost use Rattle.stable_engine.specs.Listing.{count_text, prefix_line, paths_behind, dispute_line, choice_line, unknown_line};
+ghost use Rattle.std.specs.List.{flat_map};
+ghost use Rattle.stable_engine.specs.Listing.{count_text, prefix_line, paths_behind, dispute_line, choice_line, follow_line, unknown_line};
 
 use net_text::{put_len, put_marked, put_numbers, put_prefixes};
 use prefix_lanes::Prefix;
-use ranked_policy::{Asn, Path};
+use ranked_policy::{Asn, NetItems, Path};
 use stable_search::Every;
 use std::alloc::AllocError;
 
@@ -76,6 +77,33 @@ pub(crate) fn put_choice_line(paths: &[Path], out: &mut Vec<u8>) -> Result<(), A
 {
     out.extend_from_slice(b"choice")?;
     put_paths(paths, out)?;
+    out.extend_from_slice(b"\n")
+}
+
+// Appends the paths of choices, a space before each.
+fn put_all_paths(choices: &[NetItems<Path>], out: &mut Vec<u8>) -> Result<(), AllocError>
+    ensures { OnOk result (out.new.items ≡ out.old.items ++ flat_map paths_behind choices.now) }
+{
+    for choice in choices {
+        put_paths(choice.as_slice(), out)?;
+    }
+    Ok(())
+}
+
+/// Appends routers that follow, and the paths that they may have.
+#[tactic(auto, unfolding(crate::specs::Listing::follow_line))]
+pub(crate) fn put_follow_line(
+    prefix: &Prefix,
+    routers: &[Asn],
+    choices: &[NetItems<Path>],
+    out: &mut Vec<u8>,
+) -> Result<(), AllocError>
+    ensures { OnOk result (out.new.items ≡ out.old.items ++ follow_line prefix.now routers.now choices.now) }
+{
+    out.extend_from_slice(b"follow")?;
+    put_marked(out, routers, b' ')?;
+    put_prefixes(out, &[*prefix])?;
+    put_all_paths(choices, out)?;
     out.extend_from_slice(b"\n")
 }
 

@@ -3,9 +3,9 @@
 ghost use Rattle.std.specs.Prelude.{◌≡◌, ◌++◌, ◌+◌, ◌<◌, ◌^◌, length, filter, IfOk, OnOk};
 ghost use Rattle.std.specs.List.{All};
 ghost use Rattle.stable_search.specs.Every.{IsPart};
-ghost use Rattle.stable_engine.specs.Listing.{route_text, only_text, routes_of, routes_text, is_dispute, choices_text, dispute_text, disputes_text, every_text};
+ghost use Rattle.stable_engine.specs.Listing.{route_text, only_text, routes_of, routes_text, is_dispute, choices_text, dispute_text, disputes_text, follow_text, follows_text, every_text};
 
-use crate::lines::{put_choice_line, put_dispute_line, put_prefix_line};
+use crate::lines::{put_choice_line, put_dispute_line, put_follow_line, put_prefix_line};
 use net_text::path_line;
 use prefix_lanes::Prefix;
 use ranked_policy::{Asn, NetItems, NetRouter, Path};
@@ -116,7 +116,7 @@ fn put_disputes(prefix: &Prefix, parts: &[Component], out: &mut Vec<u8>) -> Resu
 {
     let mut number = 1usize;
     for part in parts {
-        if part.choices.len() != 1 {
+        if !part.follows && part.choices.len() != 1 {
             put_dispute(number, prefix, part, out)?;
             number += 1;
         }
@@ -124,8 +124,33 @@ fn put_disputes(prefix: &Prefix, parts: &[Component], out: &mut Vec<u8>) -> Resu
     Ok(())
 }
 
+// Appends the paths of a router that follows.
+fn put_follow(prefix: &Prefix, part: &Component, out: &mut Vec<u8>) -> Result<(), AllocError>
+    ensures { OnOk result (out.new.items ≡ out.old.items ++ follow_text prefix.now part.now) }
+{
+    if !part.follows {
+        return Ok(());
+    }
+    put_follow_line(
+        prefix,
+        part.routers.as_slice(),
+        part.choices.as_slice(),
+        out,
+    )
+}
+
+// Appends the routers that follow among these parts.
+fn put_follows(prefix: &Prefix, parts: &[Component], out: &mut Vec<u8>) -> Result<(), AllocError>
+    ensures { OnOk result (out.new.items ≡ out.old.items ++ follows_text prefix.now parts.now) }
+{
+    for part in parts {
+        put_follow(prefix, part, out)?;
+    }
+    Ok(())
+}
+
 /// Appends all stable assignments for a prefix: how many there are, the paths of the routers that have the same in
-/// all, and the disputes.
+/// all, the disputes, and the routers that follow.
 pub(crate) fn put_every(
     prefix: &Prefix,
     routers: &[NetRouter],
@@ -138,5 +163,6 @@ pub(crate) fn put_every(
     let parts = every.parts.as_slice();
     put_prefix_line(prefix, every, out)?;
     put_routes(prefix, routers, parts, out)?;
-    put_disputes(prefix, parts, out)
+    put_disputes(prefix, parts, out)?;
+    put_follows(prefix, parts, out)
 }

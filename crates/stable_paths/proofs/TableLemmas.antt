@@ -1,9 +1,9 @@
 -- A router of a network has one table of policies, and so one best path.
-use Rattle.std.proofs.Common.{◌≡◌, ◌≢◌, ℕ, zero, suc, ◌+◌, ◌<◌, ◌≤◌, Bool, true, false, cond, List, [], ◌∷◌, length, get_or, refl, sym, ap, subst, ◌∙◌, arith, inl, inr}
-use Rattle.std.specs.Prelude.{◌↔◌, IsTrue, slice_index}
+use Rattle.std.proofs.Common.{◌≡◌, ◌≢◌, ℕ, zero, suc, ◌+◌, ◌<◌, ◌≤◌, Bool, true, false, cond, List, [], ◌∷◌, ◌++◌, length, take, get_or, refl, sym, ap, subst, ◌∙◌, arith, inl, inr}
+use Rattle.std.specs.Prelude.{◌↔◌, IsTrue, slice_index, Option, None, Some, MatchOption}
 use Rattle.std.specs.List.{AllPairs}
 use Rattle.std.proofs.lemmas.Bool.{cases_order}
-use Rattle.std.proofs.lemmas.List.{length-map, get_or-map, get_or_default}
+use Rattle.std.proofs.lemmas.List.{length-map, get_or-map, get_or_default, take_more}
 use Rattle.prefix_lanes.specs.Bits.{PrefixView}
 use Rattle.ranked_policy.specs.declared.network.NetRouter.{NetRouter}
 use Rattle.ranked_policy.specs.declared.network.Origin.{Origin}
@@ -12,8 +12,9 @@ use Rattle.ranked_policy.specs.Plans.{Plan, IsNetwork, IsRouter, IsOrigin, Linke
 use Rattle.ranked_policy.specs.Policies.{Table, IsTable, IsTableOf, Originates, IsPermitted}
 use Rattle.ranked_policy.specs.Promises.{EachPolicyIsAnOrder}
 use Rattle.run_model.specs.Routes.{Network}
+use Rattle.stable_paths.specs.declared.verdict.Mover.{Mover}
 use Rattle.stable_paths.specs.Stable.{Problem, IsProblem, own_path, IsBestOf, IsBest, IsStable, MayHave}
-use Rattle.stable_paths.specs.Judging.{IsLeastWithout, IsMoving}
+use Rattle.stable_paths.specs.Judging.{IsLeastWithout, IsMoving, IsMover, AreMovers}
 use Rattle.stable_paths.specs.Promises.{OneBest, NoOriginNoPath, Chooses, StableIsTheModels}
 use Rattle.ranked_policy.specs.Choices.{HasPathOver}
 use Rattle.ranked_policy.proofs.ChoiceLemmas.{first_once, first_as}
@@ -93,37 +94,93 @@ module _ (Q : ℕ → Type 0) (routers : List NetRouter) where
       let inside : i < length (numbers routers) = omega (arith, size, lt) in
       (i, inside, get_or_default (numbers routers) i r.asn 0 inside ∙ number_is i r lt is)
 
+-- the router of a table, which has not its best
+pub mover_is : (p : Problem) (paths : ℕ → List ℕ) (u : ℕ) (table : Table) (net : Plan) → net ≡ p.net → IsTableOf net u table → IsRouter p.net.routers u → (has best : List ℕ) → IsBestOf p paths table best
+    → (best ≡ has → ⊥) → has ≡ paths u → (field : List ℕ) → field ≡ has → IsMover p paths (record { router = u; has = field; best = best })
+mover_is p paths u table net en of known has best best_is apart has_is field ef = record {
+  router = known;
+  has_it = ef ∙ has_is;
+  best_is = (table, subst (λ (n : Plan). IsTableOf n u table) en of, best_is);
+  moves = λ e. apart (e ∙ ef);
+}
+
+-- the router of a table, which has its best
+pub settled_is : (p : Problem) (paths : ℕ → List ℕ) (u : ℕ) (table : Table) (net : Plan) → net ≡ p.net → IsTableOf net u table → (has best : List ℕ) → IsBestOf p paths table best → best ≡ has → has ≡ paths u
+    → IsBest p paths u (paths u)
+settled_is p paths u table net en of has best best_is same has_is =
+    (table, subst (λ (n : Plan). IsTableOf n u table) en of, subst (IsBestOf p paths table) (same ∙ has_is) best_is)
+
 -- the least router that has not its best
 pub moving : EachPolicyIsAnOrder → (p : Problem) → IsProblem p → (paths : ℕ → List ℕ) (routers : List NetRouter) → routers ≡ p.net.routers → (i : ℕ) (r : NetRouter) → i < length routers → r ≡ get_or routers i r
-    → (table : Table) (net : Plan) → net ≡ p.net → IsTableOf net r.asn table → (has best : List ℕ) → IsBestOf p paths table best → (best ≡ has → ⊥) → has ≡ paths r.asn
-    → ((k : ℕ) → k < i → IsBest p paths (slice_index (numbers p.net.routers) k) (paths (slice_index (numbers p.net.routers) k)))
-    → (field : List ℕ) → field ≡ has → IsMoving p paths r.asn field best
-moving law p is paths routers er i r lt at table net en of has best best_is apart has_is inv field ef =
+    → (m : Mover) → m.router ≡ r.asn → IsMover p paths m → ((k : ℕ) → k < i → IsBest p paths (slice_index (numbers p.net.routers) k) (paths (slice_index (numbers p.net.routers) k)))
+    → IsMoving p paths m.router m.has m.best
+moving law p is paths routers er i r lt at m number moves inv =
     let lt-2 : i < length p.net.routers = subst (λ (rs : List NetRouter). i < length rs) er lt in
     let at-2 : r ≡ get_or p.net.routers i r = subst (λ (rs : List NetRouter). r ≡ get_or rs i r) er at in
-    let of-2 : IsTableOf p.net r.asn table = subst (λ (n : Plan). IsTableOf n r.asn table) en of in
-    let best-2 : IsBest p paths r.asn best = (table, of-2, best_is) in
     let Q : ℕ → Type 0 = λ v. IsBest p paths v (paths v) in
     record {
       least = record {
-        router = stands Q p.net.routers i r lt-2 at-2;
-        fails = λ mine. apart (one_best law p is paths r.asn best (paths r.asn) best-2 mine ∙ sym has_is);
-        below = each_below Q p.net.routers i r is.network.plan.rising lt-2 at-2 inv;
+        router = moves.router;
+        fails = λ mine. moves.moves (one_best law p is paths m.router m.best (paths m.router) moves.best_is mine ∙ sym moves.has_it);
+        below = λ v known less. each_below Q p.net.routers i r is.network.plan.rising lt-2 at-2 inv v known (subst (λ (n : ℕ). v < n) number less);
       };
-      has_it = ef ∙ has_is;
-      best_is = best-2;
+      has_it = moves.has_it;
+      best_is = moves.best_is;
     }
 
 -- one router more has its best
 pub settled_on : (p : Problem) (paths : ℕ → List ℕ) (routers : List NetRouter) → routers ≡ p.net.routers → (i : ℕ) (r : NetRouter) → i < length routers → r ≡ get_or routers i r
-    → (table : Table) (net : Plan) → net ≡ p.net → IsTableOf net r.asn table → (has best : List ℕ) → IsBestOf p paths table best → best ≡ has → has ≡ paths r.asn
-    → ((k : ℕ) → k < i → IsBest p paths (slice_index (numbers p.net.routers) k) (paths (slice_index (numbers p.net.routers) k)))
+    → IsBest p paths r.asn (paths r.asn) → ((k : ℕ) → k < i → IsBest p paths (slice_index (numbers p.net.routers) k) (paths (slice_index (numbers p.net.routers) k)))
     → (k : ℕ) → k < i + 1 → IsBest p paths (slice_index (numbers p.net.routers) k) (paths (slice_index (numbers p.net.routers) k))
-settled_on p paths routers er i r lt at table net en of has best best_is same has_is inv =
+settled_on p paths routers er i r lt at best inv =
     let lt-2 : i < length p.net.routers = subst (λ (rs : List NetRouter). i < length rs) er lt in
     let at-2 : r ≡ get_or p.net.routers i r = subst (λ (rs : List NetRouter). r ≡ get_or rs i r) er at in
-    let of-2 : IsTableOf p.net r.asn table = subst (λ (n : Plan). IsTableOf n r.asn table) en of in
-    each_on (λ v. IsBest p paths v (paths v)) p.net.routers i r lt-2 at-2 (table, of-2, subst (IsBestOf p paths table) (same ∙ has_is) best_is) inv
+    each_on (λ v. IsBest p paths v (paths v)) p.net.routers i r lt-2 at-2 best inv
+
+-- a router of the list is one of the problem
+pub known_at : (p : Problem) (routers : List NetRouter) → routers ≡ p.net.routers → (i : ℕ) (r : NetRouter) → i < length routers → r ≡ get_or routers i r → IsRouter p.net.routers r.asn
+known_at p routers er i r lt at = subst (λ (rs : List NetRouter). IsRouter rs r.asn) er (stands (λ _. Unit {0}) routers i r lt at)
+
+-- ---- all that would move
+
+one_more : (p : Problem) (routers : List NetRouter) → routers ≡ p.net.routers → (i : ℕ) (r : NetRouter) → i < length routers → r ≡ get_or routers i r → take (i + 1) p.net.routers ≡ take i p.net.routers ++ r ∷ []
+one_more p routers er i r lt at =
+    let lt-2 : i < length p.net.routers = subst (λ (rs : List NetRouter). i < length rs) er lt in
+    let at-2 : r ≡ get_or p.net.routers i r = subst (λ (rs : List NetRouter). r ≡ get_or rs i r) er at in
+    take_more p.net.routers i r lt-2 ∙ ap (λ (x : NetRouter). take i p.net.routers ++ x ∷ []) (sym at-2)
+
+more_best : (p : Problem) (paths : ℕ → List ℕ) (rs : List NetRouter) (r : NetRouter) (ms : List Mover) → AreMovers p paths rs ms → IsBest p paths r.asn (paths r.asn) → AreMovers p paths (rs ++ r ∷ []) ms
+more_best p paths [] r ms none best = inl (best, none)
+more_best p paths (x ∷ rs) r ms (inl a) best = inl (a.0, more_best p paths rs r ms a.1 best)
+more_best p paths (x ∷ rs) r ms (inr a) best = inr (a.0, a.1, a.2, a.3, a.4, more_best p paths rs r a.1 a.5 best)
+
+more_moves : (p : Problem) (paths : ℕ → List ℕ) (rs : List NetRouter) (r : NetRouter) (ms : List Mover) (m : Mover) → AreMovers p paths rs ms → m.router ≡ r.asn → IsMover p paths m
+    → AreMovers p paths (rs ++ r ∷ []) (ms ++ m ∷ [])
+more_moves p paths [] r ms m none number moves = inr (m, [], ap (λ (l : List Mover). l ++ m ∷ []) none, number, moves, refl)
+more_moves p paths (x ∷ rs) r ms m (inl a) number moves = inl (a.0, more_moves p paths rs r ms m a.1 number moves)
+more_moves p paths (x ∷ rs) r ms m (inr a) number moves = inr (a.0, a.1 ++ m ∷ [], ap (λ (l : List Mover). l ++ m ∷ []) a.2, a.3, a.4, more_moves p paths rs r a.1 m a.5 number moves)
+
+-- one router more, which has its best
+best_more : (p : Problem) (paths : ℕ → List ℕ) (routers : List NetRouter) → routers ≡ p.net.routers → (i : ℕ) (r : NetRouter) → i < length routers → r ≡ get_or routers i r → (ms : List Mover)
+    → AreMovers p paths (take i p.net.routers) ms → IsBest p paths r.asn (paths r.asn) → AreMovers p paths (take (i + 1) p.net.routers) ms
+best_more p paths routers er i r lt at ms all best =
+    let one : take (i + 1) p.net.routers ≡ take i p.net.routers ++ r ∷ [] = one_more p routers er i r lt at in
+    subst (λ (l : List NetRouter). AreMovers p paths l ms) (sym one) (more_best p paths (take i p.net.routers) r ms all best)
+
+-- one that would move
+moves_more : (p : Problem) (paths : ℕ → List ℕ) (routers : List NetRouter) → routers ≡ p.net.routers → (i : ℕ) (r : NetRouter) → i < length routers → r ≡ get_or routers i r → (ms : List Mover) (m : Mover)
+    → AreMovers p paths (take i p.net.routers) ms → m.router ≡ r.asn → IsMover p paths m → AreMovers p paths (take (i + 1) p.net.routers) (ms ++ m ∷ [])
+moves_more p paths routers er i r lt at ms m all number moves =
+    let one : take (i + 1) p.net.routers ≡ take i p.net.routers ++ r ∷ [] = one_more p routers er i r lt at in
+    subst (λ (l : List NetRouter). AreMovers p paths l (ms ++ m ∷ [])) (sym one) (more_moves p paths (take i p.net.routers) r ms m all number moves)
+
+-- one that would move, or not
+pub found_more : (p : Problem) (paths : ℕ → List ℕ) (routers : List NetRouter) → routers ≡ p.net.routers → (i : ℕ) (r : NetRouter) → i < length routers → r ≡ get_or routers i r → (ms new : List Mover) (found : Option Mover)
+    → AreMovers p paths (take i p.net.routers) ms → MatchOption found (IsBest p paths r.asn (paths r.asn)) (λ m. (m.router ≡ r.asn) × IsMover p paths m)
+    → MatchOption found (new ≡ ms) (λ m. new ≡ ms ++ m ∷ []) → AreMovers p paths (take (i + 1) p.net.routers) new
+found_more p paths routers er i r lt at ms new None all best is = subst (λ (l : List Mover). AreMovers p paths (take (i + 1) p.net.routers) l) (sym is) (best_more p paths routers er i r lt at ms all best)
+found_more p paths routers er i r lt at ms new (Some m) all moves is =
+    subst (λ (l : List Mover). AreMovers p paths (take (i + 1) p.net.routers) l) (sym is) (moves_more p paths routers er i r lt at ms m all moves.0 moves.1)
 
 -- a path that is there may be had exactly where the router's table permits it
 pub may_by : (net : Plan) → IsNetwork net → (prefix : PrefixView) (u : ℕ) (table : Table) → IsTableOf net u table → (path : List ℕ) → path ≢ [] → (b : Bool) → (IsTrue b ↔ IsPermitted table prefix path)

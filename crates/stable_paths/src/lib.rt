@@ -2,7 +2,7 @@
 //!
 //! An [`Instance`] is a prefix of a network, an [`Assignment`] a path for each router. The one contract: [`check`]
 //! answers that the assignment is stable exactly where each router has the best of its choices, given its peers' paths;
-//! else the least router that has not, with its path and its best.
+//! else the least router that has not, with its path and its best. [`movers`] lists all that have not.
 //!
 //! The definitions stand in `specs/`: `Stable` (choices, the best of them, stable assignments),
 //! `Judging` (what a check answers).
@@ -21,5 +21,5 @@ mod verdict;
 pub use assignment::{Assigned, Assignment};
 pub use instance::Instance;
 pub use refusal::StableError;
-pub use stability::{check, may_have};
-pub use verdict::Check;
+pub use stability::{check, may_have, movers};
+pub use verdict::{Check, Mover};

@@ -17,3 +17,14 @@ pub enum Check {
         best: Path,
     },
 }
+
+/// A router that would move.
+#[derive(Debug, Drop)]
+pub struct Mover {
+    /// The router.
+    pub router: Asn,
+    /// The path that it has.
+    pub has: Path,
+    /// The best of its choices, given its peers' paths.
+    pub best: Path,
+}

@@ -55,7 +55,7 @@ module _ (stable : SettledIsStable) (decided : DecidedRunsPassThrough) (g : Sett
       → (q : PrefixView) → names g.net.origins q ≡ true → AsOriginated g q parts true
       → (every : Every) → IsEveryStable (originated g.net q) every → AreListed (λ u. (parts u).kept q) every
   is_listed s settled parts made q named own every all =
-      (all.exact (λ u. (parts u).kept q)).0 (stable g set order state run s settled parts made q named true own)
+      all.listed (λ u. (parts u).kept q) (stable g set order state run s settled parts made q named true own)
 
   -- the parts that all routers made, with this one of router u
   module _ (s u : ℕ) (part : RouterPart) (made : HasMade state s u part) (parts : ℕ → RouterPart) (all_made : HaveMade g state s parts) where
@@ -84,7 +84,7 @@ module _ (stable : SettledIsStable) (decided : DecidedRunsPassThrough) (g : Sett
         is_in_none (λ w. (with_part s u part made d.0 d.1 w).kept q) every none
         (is_listed s settled (with_part s u part made d.0 d.1) (have_made s u part made d.0 d.1) q named (originates s u part made d.0 d.1 q origin own) every all));
     one = λ s settled parts made q named own every all one paths is_stable u router.
-        same_in_one (λ w. (parts w).kept q) paths every one (is_listed s settled parts made q named own every all) ((all.exact paths).0 is_stable) u ((all.routers u).0 router);
+        same_in_one (λ w. (parts w).kept q) paths every one (is_listed s settled parts made q named own every all) (all.listed paths is_stable) u ((all.routers u).0 router);
   }
 
 pub runs_settle_in_listed : SettledIsStable → DecidedRunsPassThrough → RunsSettleInListed

@@ -1,21 +1,24 @@
 -- Of each part one of its choices: the combinations, and that each is of a stable assignment.
-use Rattle.std.proofs.Common.{◌≡◌, ◌≢◌, ℕ, zero, suc, ◌<◌, ◌+◌, ◌*◌, ◌==◌, Bool, cond, List, [], ◌∷◌, ◌++◌, length, get_or, map, refl, sym, ap, subst, ◌∙◌, eq-eqb, ne_eqb, arith, inl, inr}
+use Rattle.std.proofs.Common.{◌≡◌, ◌≢◌, ℕ, zero, suc, ◌<◌, ◌+◌, ◌*◌, ◌==◌, Bool, true, false, cond, List, [], ◌∷◌, ◌++◌, length, get_or, map, refl, sym, ap, subst, ◌∙◌, eq-eqb, ne_eqb, arith, inl, inr}
+use Rattle.std.specs.Prelude.{not, filter}
 use Rattle.std.specs.List.{All, AllPairs, Contains}
+use Rattle.std.proofs.lemmas.Bool.{cases_Bool, both_ways}
+use Rattle.std.proofs.lemmas.List.Kept.{AllPairs-filter}
 use Rattle.std.proofs.lemmas.List.{length-map, length-append, get_or-map}
-use Rattle.std.proofs.lemmas.List.Elements.{Contains-get_or, Contains-append_left, Contains-append_right, Contains-append_cases}
+use Rattle.std.proofs.lemmas.List.Elements.{All-filter, Contains-get_or, Contains-append_left, Contains-append_right, Contains-append_cases}
 use Rattle.ranked_policy.specs.Plans.{IsRouter}
 use Rattle.stable_paths.specs.ByRank.{best_by_rank, BestByRankIsBest}
 use Rattle.stable_paths.specs.Promises.{NoOriginNoPath}
 use Rattle.stable_paths.specs.Stable.{IsBest}
 use Rattle.stable_paths.proofs.TableLemmas.{linked_is}
 use Rattle.stable_search.specs.declared.every.Component.{Component}
-use Rattle.stable_search.specs.Counting.{what_all_have, StableAreCounted, NoneWithoutOrigin}
-use Rattle.stable_search.specs.Every.{HasChoice, IsPart, number_of}
+use Rattle.stable_search.specs.Counting.{what_all_have, leads, StableAreCounted, NoneWithoutOrigin}
+use Rattle.stable_search.specs.Every.{HasChoice, HaveChoices, Agree, IsPart, number_of}
 use Rattle.stable_search.proofs.PickLemmas.{pairs_append}
 
 -- ---- each of some before each of others
 
-with_each : {X : Type 0} → List X → List (List X) → List (List X)
+pub with_each : {X : Type 0} → List X → List (List X) → List (List X)
 with_each [] rests = []
 with_each (c ∷ cs) rests = map (λ rest. c ∷ rest) rests ++ with_each cs rests
 
@@ -35,7 +38,7 @@ in_map : {X : Type 0} (c : X) (rests : List (List X)) (rest : List X) → Contai
 in_map {X} c rests rest h =
     (h.0, (let size = length-map rests (λ (r : List X). c ∷ r) in omega (arith, size, h.1)), get_or-map (λ (r : List X). c ∷ r) rests h.0 rest (c ∷ rest) h.1 ∙ ap (λ (r : List X). c ∷ r) h.2)
 
-in_each : {X : Type 0} (cs : List X) (rests : List (List X)) (c : X) (rest : List X) → Contains cs c → Contains rests rest → Contains (with_each cs rests) (c ∷ rest)
+pub in_each : {X : Type 0} (cs : List X) (rests : List (List X)) (c : X) (rest : List X) → Contains cs c → Contains rests rest → Contains (with_each cs rests) (c ∷ rest)
 unfolding with_each
 in_each [] rests c rest h r = absurd (omega (arith, h.1))
 in_each {X} (d ∷ cs) rests c rest (zero, lt, e) r =
@@ -100,14 +103,20 @@ once_each {X} (c ∷ cs) rests once apart =
 
 -- ---- combinations
 
-combinations : List Component → List (List (List (List ℕ)))
+pub combinations : List Component → List (List (List (List ℕ)))
 combinations [] = [] ∷ []
 combinations (part ∷ parts) = with_each part.choices (combinations parts)
 
-count_is : (parts : List Component) → length (combinations parts) ≡ number_of parts
+-- as many as the product of the numbers of choices, for the parts that don't follow
+count_by : (b : Bool) (part : Component) (parts : List Component) (n : ℕ) → length (combinations parts) ≡ n → length (combinations (cond (not b) (part ∷ parts) parts)) ≡ cond b 1 (length part.choices) * n
+unfolding combinations
+count_by true part parts n e = omega (arith, e)
+count_by false part parts n e = length_each part.choices (combinations parts) ∙ ap (λ (m : ℕ). length part.choices * m) e
+
+count_is : (parts : List Component) → length (combinations (filter leads parts)) ≡ number_of parts
 unfolding combinations
 count_is [] = refl
-count_is (part ∷ parts) = length_each part.choices (combinations parts) ∙ ap (λ (n : ℕ). length part.choices * n) (count_is parts)
+count_is (part ∷ parts) = count_by part.follows part (filter leads parts) (number_of parts) (count_is parts)
 
 first_part : (P : Component → Type 0) (part : Component) (parts : List Component) → All P (part ∷ parts) → P part
 first_part P part parts all = all 0 part (omega arith)
@@ -122,18 +131,18 @@ all_parts P part parts one all (suc k) d lt = all k d (omega (arith, lt))
 one_pairs : {X : Type 0} (x : X) → AllPairs (λ a b. a ≢ b) (x ∷ [])
 one_pairs x i j d lt inside = absurd (omega (arith, lt, inside))
 
-combined_once : (parts : List Component) → All IsPart parts → AllPairs (λ a b. a ≢ b) (combinations parts)
+pub combined_once : (parts : List Component) → All IsPart parts → AllPairs (λ a b. a ≢ b) (combinations parts)
 unfolding combinations
 combined_once [] all = one_pairs []
 combined_once (part ∷ parts) all = once_each part.choices (combinations parts) (first_part IsPart part parts all).once (combined_once parts (other_parts IsPart part parts all))
 
-chosen_in : (paths : ℕ → List ℕ) (parts : List Component) → All (HasChoice paths) parts → Contains (combinations parts) (what_all_have paths parts)
+pub chosen_in : (paths : ℕ → List ℕ) (parts : List Component) → All (HasChoice paths) parts → Contains (combinations parts) (what_all_have paths parts)
 unfolding combinations
 chosen_in paths [] all = (0, omega arith, refl)
 chosen_in paths (part ∷ parts) all =
     in_each part.choices (combinations parts) (map paths part.routers) (what_all_have paths parts) (first_part (HasChoice paths) part parts all) (chosen_in paths parts (other_parts (HasChoice paths) part parts all))
 
-in_chosen : (paths : ℕ → List ℕ) (parts : List Component) → Contains (combinations parts) (what_all_have paths parts) → All (HasChoice paths) parts
+pub in_chosen : (paths : ℕ → List ℕ) (parts : List Component) → Contains (combinations parts) (what_all_have paths parts) → All (HasChoice paths) parts
 unfolding combinations
 in_chosen paths [] c = λ k d lt. absurd (omega (arith, lt))
 in_chosen paths (part ∷ parts) c =
@@ -150,12 +159,12 @@ path_in [] choice u other = other
 path_in (v ∷ vs) [] u other = other
 path_in (v ∷ vs) (path ∷ paths) u other = cond (v == u) path (path_in vs paths u other)
 
-paths_of : List Component → List (List (List ℕ)) → ℕ → List ℕ
+pub paths_of : List Component → List (List (List ℕ)) → ℕ → List ℕ
 paths_of [] one u = []
 paths_of (part ∷ parts) [] u = []
 paths_of (part ∷ parts) (choice ∷ rest) u = path_in part.routers choice u (paths_of parts rest u)
 
-map_same : (f g : ℕ → List ℕ) (us : List ℕ) → ((u : ℕ) → Contains us u → f u ≡ g u) → map f us ≡ map g us
+pub map_same : (f g : ℕ → List ℕ) (us : List ℕ) → ((u : ℕ) → Contains us u → f u ≡ g u) → map f us ≡ map g us
 map_same f g [] same = refl
 map_same f g (u ∷ us) same =
     let here : f u ≡ g u = same u (0, omega arith, refl) in
@@ -199,11 +208,11 @@ parts_same f g (part ∷ parts) same =
     let later : what_all_have f parts ≡ what_all_have g parts = parts_same f g parts (λ u k d lt c. same u (suc k) d (omega (arith, lt)) c) in
     ap (λ (x : List (List ℕ)). x ∷ what_all_have f parts) here ∙ ap (λ (xs : List (List (List ℕ))). map g part.routers ∷ xs) later
 
-abbrev AreApart : List Component → Type 0
+abbrev pub AreApart : List Component → Type 0
 AreApart parts = AllPairs (λ part later. (u : ℕ) → Contains part.routers u → Contains later.routers u → ⊥) parts
 
 -- a combination is what all have in its assignment
-combined : (parts : List Component) → All IsPart parts → AreApart parts → (one : List (List (List ℕ))) → Contains (combinations parts) one → what_all_have (paths_of parts one) parts ≡ one
+pub combined : (parts : List Component) → All IsPart parts → AreApart parts → (one : List (List (List ℕ))) → Contains (combinations parts) one → what_all_have (paths_of parts one) parts ≡ one
 unfolding combinations paths_of
 combined [] all apart one (zero, lt, e) = e
 combined [] all apart one (suc k, lt, e) = absurd (omega (arith, lt))
@@ -222,24 +231,107 @@ combined (part ∷ parts) all apart one c =
     ap (λ (x : List (List ℕ)). x ∷ what_all_have paths parts) mine ∙ ap (λ (xs : List (List (List ℕ))). f.first ∷ xs) (same ∙ others) in
     subst (λ (x : List (List (List ℕ))). what_all_have (paths_of (part ∷ parts) x) (part ∷ parts) ≡ x) (sym f.is) made
 
+-- ---- the parts that don't follow
+
+-- one choice of each part, of those that don't follow the one that the routers have
+pub record Chosen (paths : ℕ → List ℕ) (parts : List Component) : Type 0 where
+  pub one : List (List (List ℕ))
+  pub in_all : Contains (combinations parts) one
+  pub same : (k : ℕ) (d : Component) → k < length parts → (get_or parts k d).follows ≡ false → get_or one k [] ≡ map paths (get_or parts k d).routers
+
+first_of : (paths : ℕ → List ℕ) (part : Component) → IsPart part → (part.follows ≡ false → HasChoice paths part)
+    → (choice : List (List ℕ)) × Contains part.choices choice × (part.follows ≡ false → choice ≡ map paths part.routers)
+first_of paths part is have = elim (cases_Bool part.follows) [
+  | inl led ↦
+      let more = (is.alone led).1 in
+      (get_or part.choices 0 [], Contains-get_or part.choices 0 [] (omega (arith, more)), λ own. absurd (both_ways part.follows own led))
+  | inr own ↦ (map paths part.routers, have own, λ _. refl)
+]
+
+chosen : (paths : ℕ → List ℕ) (parts : List Component) → All IsPart parts → HaveChoices paths parts → Chosen paths parts
+unfolding combinations
+chosen paths [] all have = record { one = []; in_all = (0, omega arith, refl); same = λ k d lt own. absurd (omega (arith, lt)) }
+chosen paths (part ∷ parts) all have =
+    let rest = chosen paths parts (other_parts IsPart part parts all) (other_parts (λ x. x.follows ≡ false → HasChoice paths x) part parts have) in
+    let first = first_of paths part (first_part IsPart part parts all) (first_part (λ x. x.follows ≡ false → HasChoice paths x) part parts have) in
+    record {
+      one = first.0 ∷ rest.one;
+      in_all = in_each part.choices (combinations parts) first.0 rest.one first.1 rest.in_all;
+      same = λ k d lt own. at first.0 rest first.2 k d lt own;
+    }
+  where
+    at : (first : List (List ℕ)) (rest : Chosen paths parts) → (part.follows ≡ false → first ≡ map paths part.routers) → (k : ℕ) (d : Component) → k < length (part ∷ parts) → (get_or (part ∷ parts) k d).follows ≡ false
+        → get_or (first ∷ rest.one) k [] ≡ map paths (get_or (part ∷ parts) k d).routers
+    at first rest same zero d lt own = same own
+    at first rest same (suc k) d lt own = rest.same k d (omega (arith, lt)) own
+
+-- paths with a choice of each part, that of those which don't follow
+pub filled : (paths : ℕ → List ℕ) (parts : List Component) → All IsPart parts → AreApart parts → HaveChoices paths parts
+    → (full : ℕ → List ℕ) × All (HasChoice full) parts × Agree full paths parts
+filled paths parts all apart have =
+    let c = chosen paths parts all have in
+    let full : ℕ → List ℕ = paths_of parts c.one in
+    let same : what_all_have full parts ≡ c.one = combined parts all apart c.one c.in_all in (
+      full,
+      in_chosen full parts (subst (Contains (combinations parts)) (sym same) c.in_all),
+      λ k d lt own.
+          sym (get_or-map (λ (part : Component). map full part.routers) parts k d [] lt) ∙ ap (λ (xs : List (List (List ℕ))). get_or xs k []) same ∙ c.same k d lt own,
+    )
+
+-- what holds of the parts that don't follow
+of_leading_by : (P : Component → Type 0) (part : Component) (parts : List Component) (b : Bool) → part.follows ≡ b → All P (cond (not b) (part ∷ filter leads parts) (filter leads parts))
+    → (All P (filter leads parts) → All (λ x. x.follows ≡ false → P x) parts) → All (λ x. x.follows ≡ false → P x) (part ∷ parts)
+of_leading_by P part parts true is all rest = all_parts (λ x. x.follows ≡ false → P x) part parts (λ own. absurd (both_ways part.follows own is)) (rest all)
+of_leading_by P part parts false is all rest = all_parts (λ x. x.follows ≡ false → P x) part parts (λ own. all 0 part (omega arith)) (rest (λ k d lt. all (suc k) d (omega (arith, lt))))
+
+of_leading : (P : Component → Type 0) (parts : List Component) → All P (filter leads parts) → All (λ part. part.follows ≡ false → P part) parts
+of_leading P [] all = λ k d lt own. absurd (omega (arith, lt))
+of_leading P (part ∷ parts) all = of_leading_by P part parts part.follows refl all (of_leading P parts)
+
+to_leading_by : (P : Component → Type 0) (part : Component) (parts : List Component) (b : Bool) → part.follows ≡ b → (part.follows ≡ false → P part) → All P (filter leads parts)
+    → All P (cond (not b) (part ∷ filter leads parts) (filter leads parts))
+to_leading_by P part parts true is here rest = rest
+to_leading_by P part parts false is here rest = all_parts P part (filter leads parts) (here is) rest
+
+to_leading : (P : Component → Type 0) (parts : List Component) → All (λ part. part.follows ≡ false → P part) parts → All P (filter leads parts)
+to_leading P [] all = λ k d lt. absurd (omega (arith, lt))
+to_leading P (part ∷ parts) all =
+    to_leading_by P part parts part.follows refl (first_part (λ x. x.follows ≡ false → P x) part parts all) (to_leading P parts (other_parts (λ x. x.follows ≡ false → P x) part parts all))
+
+alike : (f g : ℕ → List ℕ) (parts : List Component) → All (λ part. map f part.routers ≡ map g part.routers) parts → what_all_have f parts ≡ what_all_have g parts
+alike f g [] all = refl
+alike f g (part ∷ parts) all =
+    ap (λ (x : List (List ℕ)). x ∷ what_all_have f parts) (first_part (λ x. map f x.routers ≡ map g x.routers) part parts all)
+    ∙ ap (λ (xs : List (List (List ℕ))). map g part.routers ∷ xs) (alike f g parts (other_parts (λ x. map f x.routers ≡ map g x.routers) part parts all))
+
+each_alike : (f g : ℕ → List ℕ) (parts : List Component) → what_all_have f parts ≡ what_all_have g parts → All (λ part. map f part.routers ≡ map g part.routers) parts
+each_alike f g [] e = λ k d lt. absurd (omega (arith, lt))
+each_alike f g (part ∷ parts) e =
+    all_parts (λ x. map f x.routers ≡ map g x.routers) part parts (same_first (map f part.routers) (map g part.routers) (what_all_have f parts) (what_all_have g parts) e)
+    (each_alike f g parts (same_rest (map f part.routers) (map g part.routers) (what_all_have f parts) (what_all_have g parts) e))
+
 pub stable_are_counted : StableAreCounted
-stable_are_counted p every is = (
-  combinations every.parts,
-  record {
-    count = count_is every.parts;
-    once = combined_once every.parts is.parts;
-    each = λ k d lt.
-        (let one = get_or (combinations every.parts) k d in
-        let c : Contains (combinations every.parts) one = Contains-get_or (combinations every.parts) k d lt in
-        let paths = paths_of every.parts one in
-        let same : what_all_have paths every.parts ≡ one = combined every.parts is.parts is.apart one c in
-        (paths, (is.exact paths).1 (in_chosen paths every.parts (subst (Contains (combinations every.parts)) (sym same) c)), sym same));
-    exact = λ paths. (
-      (λ stable. chosen_in paths every.parts ((is.exact paths).0 stable)),
-      (λ c. (is.exact paths).1 (in_chosen paths every.parts c)),
-    );
-  },
-)
+stable_are_counted p every is =
+    let core : List Component = filter leads every.parts in
+    let core_is : All IsPart core = All-filter leads IsPart every.parts is.parts in
+    let core_apart : AreApart core = AllPairs-filter (λ (part later : Component). (u : ℕ) → Contains part.routers u → Contains later.routers u → ⊥) leads every.parts is.apart in (
+      combinations core,
+      record {
+        count = count_is every.parts;
+        once = combined_once core core_is;
+        each = λ k d lt.
+            (let one = get_or (combinations core) k d in
+            let c : Contains (combinations core) one = Contains-get_or (combinations core) k d lt in
+            let paths = paths_of core one in
+            let same : what_all_have paths core ≡ one = combined core core_is core_apart one c in
+            let have : HaveChoices paths every.parts = of_leading (HasChoice paths) every.parts (in_chosen paths core (subst (Contains (combinations core)) (sym same) c)) in
+            let w = is.whole paths have in
+            (w.0, w.1, sym same ∙ sym (alike w.0 paths core (to_leading (λ part. map w.0 part.routers ≡ map paths part.routers) every.parts w.2))));
+        all = λ paths stable. chosen_in paths core (All-filter leads (HasChoice paths) every.parts (is.listed paths stable));
+        decided = λ one other one_is other_is same u router.
+            is.decided one other one_is other_is (of_leading (λ part. map one part.routers ≡ map other part.routers) every.parts (each_alike one other core same)) u router;
+      },
+    )
 
 -- ---- nobody originates the prefix
 

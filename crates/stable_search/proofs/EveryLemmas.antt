@@ -4,27 +4,31 @@ use Rattle.std.specs.List.{All, AllPairs, Contains}
 use Rattle.std.proofs.lemmas.Bool.{cases_Bool, cases_order, cases_lt, both_ways}
 use Rattle.std.proofs.lemmas.List.{length-map, get_or-map, get_or_default, get_or_past, same_lists}
 use Rattle.ranked_policy.specs.Paths.{BeginsWith}
-use Rattle.ranked_policy.specs.Plans.{Linked, IsRouter, numbers}
+use Rattle.ranked_policy.specs.declared.network.Link.{Link}
+use Rattle.ranked_policy.specs.Plans.{Plan, IsNetwork, Joins, Linked, IsRouter, numbers}
 use Rattle.ranked_policy.specs.Policies.{IsTableOf, Originates}
 use Rattle.stable_paths.specs.Stable.{Problem, IsInstance, IsStable}
 use Rattle.ranked_policy.proofs.OneTable.{one_table}
 use Rattle.stable_paths.proofs.TableLemmas.{linked_is}
-use Rattle.stable_search.specs.declared.every.Every.{Every}
 use Rattle.stable_search.specs.declared.every.Component.{Component}
 use Rattle.stable_search.specs.declared.group.Group.{Group}
 use Rattle.stable_search.specs.declared.seat.Seat.{Seat}
 use Rattle.stable_search.specs.declared.way.Way.{Way}
 use Rattle.stable_search.specs.Fits.{MayStand, FitsAt, FitsPeers, IsFitting, StableIsFitting}
-use Rattle.stable_search.specs.Every.{HasChoice, IsPart, IsEveryStable}
+use Rattle.stable_search.specs.Every.{HasChoice, IsPart}
+use Rattle.stable_search.specs.Following.{IsUp}
 use Rattle.stable_search.specs.Picks.{FitsWay, Solves}
 use Rattle.stable_search.specs.Seats.{IsSeat, FitsBy, FitsEnd, FitsBoth, StandsAt, IsWayOf, AreWaysOf}
-use Rattle.stable_search.specs.Groups.{at_places, IsPickOf, IsGroup, AreGroups, AreValues, IsPartOf, ArePartsOf}
+use Rattle.stable_search.specs.Groups.{at_places, IsPickOf, IsGroup, AreValues, IsLed, IsPartOf}
 use Rattle.stable_search.proofs.FitLemmas.{not_nil}
 use Rattle.stable_search.proofs.PlaceLemmas.{stands, here}
 use Rattle.stable_search.proofs.RelateLemmas.{same_seat}
 use Rattle.ranked_policy.proofs.Reached.{linked_back}
 
--- ---- lists
+linked_apart : (net : Plan) → IsNetwork net → (u v : ℕ) → Linked net.links u v → u ≢ v
+linked_apart net is u v a same =
+    let apart = is.plan.links.apart a.0 a.1 a.2 in
+    apart (elim (subst (λ (l : Link). Joins l u v) (sym a.3) a.4) [ inl x ↦ x.0 ∙ (same ∙ sym x.1) | inr x ↦ x.0 ∙ (sym same ∙ sym x.1) ])
 
 -- ---- one end of a link
 
@@ -73,7 +77,7 @@ pub record Picked (seats : List Seat) (paths : ℕ → List ℕ) : Type 0 where
   pub inside : (i : ℕ) (s : Seat) → StandsAt seats i s → get_or pick i 0 < length s.values.items
   pub is : (i : ℕ) (s : Seat) → StandsAt seats i s → get_or s.values.items (get_or pick i 0) [] ≡ paths s.router
 
-picked : (seats : List Seat) (paths : ℕ → List ℕ) → ((i : ℕ) (s : Seat) → StandsAt seats i s → Contains s.values.items (paths s.router)) → Picked seats paths
+pub picked : (seats : List Seat) (paths : ℕ → List ℕ) → ((i : ℕ) (s : Seat) → StandsAt seats i s → Contains s.values.items (paths s.router)) → Picked seats paths
 picked [] paths has = record { pick = []; size = refl; inside = λ i s at. absurd (omega (arith, at.0)); is = λ i s at. absurd (omega (arith, at.0)) }
 picked (t ∷ ts) paths has =
     let first : Contains t.values.items (paths t.router) = has 0 t (omega arith, refl) in
@@ -105,7 +109,7 @@ one_value values a b apart lt also e = elim (cases_order a b) [
 
 module _ (p : Problem) (is : IsInstance p) (law : StableIsFitting) (seats : List Seat) (at : map (λ (s : Seat). s.router) seats ≡ numbers p.net.routers) (each : All (IsSeat p) seats)
     (ways : List Way) (over : AreWaysOf p.net.links seats ways) (sets : List ℕ) (values : AreValues seats sets) where
-  seat_at : (i : ℕ) (s : Seat) → StandsAt seats i s → IsSeat p s
+  pub seat_at : (i : ℕ) (s : Seat) → StandsAt seats i s → IsSeat p s
   seat_at i s st = here (IsSeat p) seats i s each st
 
   pub router_at : (u : ℕ) → IsRouter p.net.routers u → (i : ℕ) × (s : Seat) × StandsAt seats i s × (s.router ≡ u)
@@ -121,12 +125,12 @@ module _ (p : Problem) (is : IsInstance p) (law : StableIsFitting) (seats : List
       (i, (let size = length-map seats (λ (r : Seat). r.router) in omega (arith, size, st.0)), get_or-map (λ (r : Seat). r.router) seats i s s.router st.0 ∙ ap (λ (r : Seat). r.router) st.1)
 
   module _ (paths : ℕ → List ℕ) where
-    fits_seat : IsFitting p paths → (i : ℕ) (s : Seat) (st : StandsAt seats i s) → FitsPeers p paths (seat_at i s st).table
+    pub fits_seat : IsFitting p paths → (i : ℕ) (s : Seat) (st : StandsAt seats i s) → FitsPeers p paths (seat_at i s st).table
     fits_seat fitting i s st =
         let f = fitting s.router (is_router i s st) in
         subst (FitsPeers p paths) (one_table p.net s.router f.0 (seat_at i s st).table is.problem.network f.1 (seat_at i s st).of) f.2
 
-    has_paths : IsStable p paths → (i : ℕ) (s : Seat) → StandsAt seats i s → Contains s.values.items (paths s.router)
+    pub has_paths : IsStable p paths → (i : ℕ) (s : Seat) → StandsAt seats i s → Contains s.values.items (paths s.router)
     has_paths stable i s st = (seat_at i s st).has paths stable
 
     fits_end : IsFitting p paths → (i : ℕ) (s : Seat) → StandsAt seats i s → (v : ℕ) → Linked p.net.links s.router v → FitsEnd s v (paths s.router) (paths v)
@@ -136,14 +140,14 @@ module _ (p : Problem) (is : IsInstance p) (law : StableIsFitting) (seats : List
         (λ not. subst (λ (n : ℕ). FitsAt x.table p.prefix v (paths n) (paths v)) x.of.0
         ((fits_seat fitting i s st).fits v (subst (λ (n : ℕ). Linked p.net.links n v) (sym x.of.0) linked) not))
 
-    low : (k : Picked seats paths) (i : ℕ) → get_or k.pick i 0 < 64
+    pub low : (k : Picked seats paths) (i : ℕ) → get_or k.pick i 0 < 64
     low k i = elim (cases_lt i (length seats)) [
       | inl inside ↦ (let s = stands seats i inside in let lt = k.inside i s.0 s.1 in let few = (seat_at i s.0 s.1).few in omega (arith, lt, few))
       | inr past ↦ (let e = get_or_past k.pick i 0 (omega (arith, past, k.size)) in omega (arith, e))
     ]
 
     -- the values of a stable assignment solve
-    solves : IsFitting p paths → (k : Picked seats paths) → Solves ways sets k.pick
+    pub solves : IsFitting p paths → (k : Picked seats paths) → Solves ways sets k.pick
     solves fitting k = record {
       inside = record {
         size = k.size ∙ sym values.0;
@@ -164,9 +168,10 @@ module _ (p : Problem) (is : IsInstance p) (law : StableIsFitting) (seats : List
             (subst (λ (q : List ℕ). FitsBoth w.one w.other q (get_or w.other.values.items b [])) (sym (k.is way.from w.one w.from))
             (subst (FitsBoth w.one w.other (paths w.one.router)) (sym (k.is way.to w.other w.to)) both))
 
-    -- and an assignment whose values solve is stable
-    fitting_by : ((i : ℕ) (s : Seat) → StandsAt seats i s → Contains s.values.items (paths s.router)) → (k : Picked seats paths) → Solves ways sets k.pick → IsFitting p paths
-    fitting_by has k solved u router =
+    -- and an assignment whose values fit over each way up is stable
+    pub fitting_by : (levels : List ℕ) → ((i j : ℕ) → i < length seats → j < length seats → 0 < get_or levels i 0 → get_or levels j 0 ≡ get_or levels i 0 → j ≡ i)
+        → ((i : ℕ) (s : Seat) → StandsAt seats i s → Contains s.values.items (paths s.router)) → (k : Picked seats paths) → All (λ way. IsUp levels way → FitsWay k.pick way) ways → IsFitting p paths
+    fitting_by levels once has k fits u router =
         let r = router_at u router in
         let i = r.0 in
         let s = r.1 in
@@ -179,20 +184,43 @@ module _ (p : Problem) (is : IsInstance p) (law : StableIsFitting) (seats : List
           },
         )
       where
-        both_at : (i : ℕ) (s : Seat) → StandsAt seats i s → (j : ℕ) (t : Seat) → StandsAt seats j t → Linked p.net.links s.router t.router → FitsBoth s t (paths s.router) (paths t.router)
-        both_at i s st j t to linked =
+        -- over a way up
+        both_up : (i : ℕ) (s : Seat) → StandsAt seats i s → (j : ℕ) (t : Seat) → StandsAt seats j t → Linked p.net.links s.router t.router
+            → (get_or levels i 0 < get_or levels j 0) ⊎ ((get_or levels i 0 ≡ 0) × (get_or levels j 0 ≡ 0)) → FitsBoth s t (paths s.router) (paths t.router)
+        both_up i s st j t to linked up =
             let h = over.all i st.0 j s t st to linked in
             let way = h.1 in
             let w = here (IsWayOf p.net.links seats) ways h.0 way over.each (h.2, h.3) in
-            let fits : FitsWay k.pick way = here (FitsWay k.pick) ways h.0 way solved.fits (h.2, h.3) in
+            let is_up : IsUp levels way = elim up [
+              | inl l ↦ inl (subst (λ (n : ℕ). get_or levels n 0 < get_or levels way.to 0) (sym h.4.0) (subst (λ (n : ℕ). get_or levels i 0 < get_or levels n 0) (sym h.4.1) l))
+              | inr flat ↦ inr (ap (λ (n : ℕ). get_or levels n 0) h.4.0 ∙ flat.0, ap (λ (n : ℕ). get_or levels n 0) h.4.1 ∙ flat.1)
+            ] in
+            let fits_way : FitsWay k.pick way = here (λ (x : Way). IsUp levels x → FitsWay k.pick x) ways h.0 way fits (h.2, h.3) is_up in
             let one : w.one ≡ s = same_seat seats i w.one s (subst (λ (n : ℕ). StandsAt seats n w.one) h.4.0 w.from) st in
             let other : w.other ≡ t = same_seat seats j w.other t (subst (λ (n : ℕ). StandsAt seats n w.other) h.4.1 w.to) to in
-            let values_fit = (w.fits.exact (get_or k.pick way.from 0) (get_or k.pick way.to 0) (k.inside way.from w.one w.from) (k.inside way.to w.other w.to)).0 fits in
+            let values_fit = (w.fits.exact (get_or k.pick way.from 0) (get_or k.pick way.to 0) (k.inside way.from w.one w.from) (k.inside way.to w.other w.to)).0 fits_way in
             let paths_fit : FitsBoth w.one w.other (paths w.one.router) (paths w.other.router) =
             subst (FitsBoth w.one w.other (paths w.one.router)) (k.is way.to w.other w.to)
             (subst (λ (q : List ℕ). FitsBoth w.one w.other q (get_or w.other.values.items (get_or k.pick way.to 0) [])) (k.is way.from w.one w.from) values_fit) in
             subst (λ (r : Seat). FitsBoth s r (paths s.router) (paths r.router)) other
             (subst (λ (r : Seat). FitsBoth r w.other (paths r.router) (paths w.other.router)) one paths_fit)
+
+        apart : (i : ℕ) (s : Seat) → StandsAt seats i s → (j : ℕ) (t : Seat) → StandsAt seats j t → Linked p.net.links s.router t.router → j ≡ i → ⊥
+        apart i s st j t to linked e =
+            let same : t ≡ s = same_seat seats i t s (subst (λ (n : ℕ). StandsAt seats n t) e to) st in
+            linked_apart p.net is.problem.network s.router t.router linked (ap (λ (r : Seat). r.router) (sym same))
+
+        both_at : (i : ℕ) (s : Seat) → StandsAt seats i s → (j : ℕ) (t : Seat) → StandsAt seats j t → Linked p.net.links s.router t.router → FitsBoth s t (paths s.router) (paths t.router)
+        both_at i s st j t to linked = elim (cases_order (get_or levels i 0) (get_or levels j 0)) [
+          | inl same ↦ elim (cases_lt 0 (get_or levels i 0)) [
+            | inl up ↦ absurd (apart i s st j t to linked (once i j st.0 to.0 up (sym same)))
+            | inr flat ↦ both_up i s st j t to linked (inr (omega (arith, flat), omega (arith, flat, same)))
+          ]
+          | inr differ ↦ elim differ [
+            | inl less ↦ both_up i s st j t to linked (inl less)
+            | inr more ↦ (let back = both_up j t to i s st (linked_back p.net.links s.router t.router linked) (inl more) in (back.1, back.0))
+          ]
+        ]
 
         fits_at : (i : ℕ) (s : Seat) (st : StandsAt seats i s) (v : ℕ) → Linked p.net.links s.router v → (Originates (seat_at i s st).table p.prefix (seat_at i s st).table.router → ⊥)
             → FitsAt (seat_at i s st).table p.prefix v (paths (seat_at i s st).table.router) (paths v)
@@ -205,7 +233,7 @@ module _ (p : Problem) (is : IsInstance p) (law : StableIsFitting) (seats : List
 
 -- ---- parts
 
-at_index : (places : List ℕ) (pick : List ℕ) (k : ℕ) → k < length places → get_or (at_places pick places) k 0 ≡ get_or pick (get_or places k 0) 0
+pub at_index : (places : List ℕ) (pick : List ℕ) (k : ℕ) → k < length places → get_or (at_places pick places) k 0 ≡ get_or pick (get_or places k 0) 0
 at_index places pick k lt = get_or-map (λ (i : ℕ). get_or pick i 0) places k 0 0 lt
 
 rising_once : (xs : List ℕ) (i j : ℕ) → AllPairs (λ u v. u < v) xs → i < length xs → j < length xs → get_or xs i 0 ≡ get_or xs j 0 → i ≡ j
@@ -240,7 +268,7 @@ module _ (p : Problem) (is : IsInstance p) (seats : List Seat) (at : map (λ (s 
 
 -- ---- a part
 
-module _ (seats : List Seat) (sets : List ℕ) (values : AreValues seats sets) (group : Group) (is : IsGroup sets group) (part : Component) (of : IsPartOf seats group part) where
+module _ (seats : List Seat) (sets : List ℕ) (values : AreValues seats sets) (levels : List ℕ) (group : Group) (is : IsGroup sets group) (part : Component) (of : IsPartOf seats levels group part) where
   seat_of : (k : ℕ) → k < length group.places → (s : Seat) × StandsAt seats (get_or group.places k 0) s
   seat_of k lt = stands seats (get_or group.places k 0) (let inside = is.inside k 0 lt in omega (arith, inside, values.0))
 
@@ -311,8 +339,9 @@ module _ (seats : List Seat) (sets : List ℕ) (values : AreValues seats sets) (
 
   -- the part's routers differ, its choices have a path for each, and none is listed twice
   pub is_part : ((i : ℕ) (s : Seat) → StandsAt seats i s → AllPairs (λ path later. path ≢ later) s.values.items)
-      → ((i j : ℕ) (s t : Seat) → StandsAt seats i s → StandsAt seats j t → i < j → s.router < t.router) → IsPart part
-  is_part once routers_rise = record {
+      → ((i j : ℕ) (s t : Seat) → StandsAt seats i s → StandsAt seats j t → i < j → s.router < t.router)
+      → (IsLed levels group → length group.places ≡ 1) → IsPart part
+  is_part once routers_rise single = record {
     some = (let some = is.some in omega (arith, some, of.routers.size));
     rising = λ a b d lt inside.
         (let alt : a < length group.places = omega (arith, lt, inside, of.routers.size) in
@@ -342,6 +371,9 @@ module _ (seats : List Seat) (sets : List ℕ) (values : AreValues seats sets) (
         (sym (pick_path a n alt klt s.0 s.1).1 ∙ ap (λ (c : List (List ℕ)). get_or c n []) choices ∙ (pick_path b n blt klt s.0 s.1).1) in
         get_or_default one n e2 0 nlt ∙ equal ∙ get_or_default other n 0 e2 (omega (arith, klt, of_other.size)))) in
         is.once a b [] lt blt same);
+    alone = λ follows.
+        (let led = of.follows.0 follows in
+        (omega (arith, single led, of.routers.size), (let more = led.0 in omega (arith, more, of.count))));
   }
 
   -- its routers are those at the group's places
@@ -358,95 +390,3 @@ module _ (seats : List Seat) (sets : List ℕ) (values : AreValues seats sets) (
       let i_is : get_or group.places c.0 0 ≡ i = get_or_default group.places c.0 0 i klt ∙ c.2 in
       let lt : c.0 < length part.routers = omega (arith, klt, of.routers.size) in
       (c.0, lt, get_or_default part.routers c.0 s.router 0 lt ∙ of.routers.each c.0 s klt (subst (λ (n : ℕ). StandsAt seats n s) (sym i_is) st))
-
--- ---- all of them
-
-pub every : (p : Problem) (is : IsInstance p) (law : StableIsFitting) (seats : List Seat) (at : map (λ (s : Seat). s.router) seats ≡ numbers p.net.routers) (each : All (IsSeat p) seats)
-    (ways : List Way) (over : AreWaysOf p.net.links seats ways) (sets : List ℕ) (values : AreValues seats sets) (groups : List Group) → AreGroups ways sets groups → (found : Every) → ArePartsOf seats groups found.parts
-    → IsEveryStable p found
-every p is law seats at each ways over sets values groups fall found of = record {
-  exact = λ paths. (
-    λ stable g d lt.
-        (let fitting : IsFitting p paths = (law p is paths).0 stable in
-        let k = picked seats paths (has_paths p is law seats at each ways over sets values paths stable) in
-        let solved = solves p is law seats at each ways over sets values paths fitting k in
-        let all = (fall.exact k.pick (k.size ∙ sym values.0) (low p is law seats at each ways over sets values paths k)).0 solved in
-        let group = group_at g (omega (arith, lt, of.size)) in
-        let part = get_or found.parts g d in
-        picks_part seats sets values group.0 (here (IsGroup sets) groups g group.0 fall.each group.1) part (of.each g group.0 part group.1 (lt, get_or_default found.parts g part d lt)) paths k
-        (here (λ (x : Group). Contains x.picks (at_places k.pick x.places)) groups g group.0 all group.1)),
-    λ chosen.
-        (let has = has_all paths chosen in
-        let k = picked seats paths has in
-        let solved = (fall.exact k.pick (k.size ∙ sym values.0) (low p is law seats at each ways over sets values paths k)).1 (λ g d lt.
-        (let group = get_or groups g d in
-        let group_is : StandsAt groups g group = (lt, get_or_default groups g group d lt) in
-        let part = part_at g lt in
-        part_picks seats sets values group (fall.each g d lt) part.0 (of.each g group part.0 group_is part.1) paths once k (here (HasChoice paths) found.parts g part.0 chosen part.1))) in
-        (law p is paths).1 (fitting_by p is law seats at each ways over sets values paths has k solved)),
-  );
-  parts = λ g d lt.
-      (let group = group_at g (omega (arith, lt, of.size)) in
-      let part = get_or found.parts g d in
-      is_part seats sets values group.0 (here (IsGroup sets) groups g group.0 fall.each group.1) part (of.each g group.0 part group.1 (lt, get_or_default found.parts g part d lt)) once (routers_rise p is seats at));
-  routers = λ u. (
-    λ router.
-        (let r = router_at p is law seats at each ways over sets values u router in
-        let f = fall.places r.0 (omega (arith, r.2.0, values.0)) in
-        let part = part_at f.0 f.2 in (
-          f.0,
-          part.0,
-          part.1.0,
-          part.1.1,
-          subst (Contains part.0.routers) r.3 (in_router seats sets values f.1 (here (IsGroup sets) groups f.0 f.1 fall.each (f.2, f.3)) part.0 (of.each f.0 f.1 part.0 (f.2, f.3) part.1) r.0 r.1 f.4 r.2),
-        )),
-    λ any.
-        (let group = group_at any.0 (omega (arith, any.2, of.size)) in
-        let r = router_in seats sets values group.0 (here (IsGroup sets) groups any.0 group.0 fall.each group.1) any.1 (of.each any.0 group.0 any.1 group.1 (any.2, any.3)) u any.4 in
-        subst (IsRouter p.net.routers) r.4 (is_router p is law seats at each ways over sets values r.0 r.1 r.3)),
-  );
-  apart = λ g h d lt inside u one other.
-      (let first = group_at g (omega (arith, lt, inside, of.size)) in
-      let next = group_at h (omega (arith, inside, of.size)) in
-      let part = get_or found.parts g d in
-      let later = get_or found.parts h d in
-      let r = router_in seats sets values first.0 (here (IsGroup sets) groups g first.0 fall.each first.1) part (of.each g first.0 part first.1 (omega (arith, lt, inside), get_or_default found.parts g part d (omega (arith, lt, inside)))) u one in
-      let t = router_in seats sets values next.0 (here (IsGroup sets) groups h next.0 fall.each next.1) later (of.each h next.0 later next.1 (inside, get_or_default found.parts h later d inside)) u other in
-      let same : r.0 ≡ t.0 = routers_once p is seats at r.0 t.0 r.1 t.1 r.3 t.3 (r.4 ∙ sym t.4) in
-      let apart = fall.apart g h first.0 lt next.1.0 in
-      apart r.0 (subst (λ (x : Group). Contains x.places r.0) (sym first.1.1) r.2)
-      (subst (λ (x : Group). Contains x.places r.0) (sym (get_or_default groups h first.0 next.0 next.1.0 ∙ next.1.1)) (subst (Contains next.0.places) (sym same) t.2)));
-  order = λ g h d lt inside.
-      (let first = group_at g (omega (arith, lt, inside, of.size)) in
-      let next = group_at h (omega (arith, inside, of.size)) in
-      let part = get_or found.parts g d in
-      let later = get_or found.parts h d in
-      let one = least_of first.0 part (here (IsGroup sets) groups g first.0 fall.each first.1) (of.each g first.0 part first.1 (omega (arith, lt, inside), get_or_default found.parts g part d (omega (arith, lt, inside)))) in
-      let other = least_of next.0 later (here (IsGroup sets) groups h next.0 fall.each next.1) (of.each h next.0 later next.1 (inside, get_or_default found.parts h later d inside)) in
-      let order : get_or first.0.places 0 0 < get_or next.0.places 0 0 =
-      subst (λ (x : Group). get_or x.places 0 0 < get_or next.0.places 0 0) first.1.1
-      (subst (λ (x : Group). get_or (get_or groups g first.0).places 0 0 < get_or x.places 0 0) (get_or_default groups h first.0 next.0 next.1.0 ∙ next.1.1) (fall.order g h first.0 lt next.1.0)) in
-      let up = routers_rise p is seats at (get_or first.0.places 0 0) (get_or next.0.places 0 0) one.0 other.0 one.1 other.1 order in
-      omega (arith, up, one.2, other.2));
-}
-  where
-    group_at : (g : ℕ) → g < length groups → (group : Group) × StandsAt groups g group
-    group_at g lt = stands groups g lt
-
-    part_at : (g : ℕ) → g < length groups → (part : Component) × StandsAt found.parts g part
-    part_at g lt = stands found.parts g (omega (arith, lt, of.size))
-
-    once : (i : ℕ) (s : Seat) → StandsAt seats i s → AllPairs (λ path later. path ≢ later) s.values.items
-    once i s st = (here (IsSeat p) seats i s each st).distinct
-
-    -- the seat of a part's least router
-    least_of : (group : Group) (part : Component) → IsGroup sets group → IsPartOf seats group part → (s : Seat) × StandsAt seats (get_or group.places 0 0) s × (get_or part.routers 0 0 ≡ s.router)
-    least_of group part x o =
-        let s = stands seats (get_or group.places 0 0) (let inside = x.inside 0 0 x.some in omega (arith, inside, values.0)) in
-        (s.0, s.1, o.routers.each 0 s.0 x.some s.1)
-
-    has_all : (paths : ℕ → List ℕ) → All (HasChoice paths) found.parts → (i : ℕ) (s : Seat) → StandsAt seats i s → Contains s.values.items (paths s.router)
-    has_all paths chosen i s st =
-        let f = fall.places i (omega (arith, st.0, values.0)) in
-        let part = part_at f.0 f.2 in
-        part_has seats sets values f.1 (here (IsGroup sets) groups f.0 f.1 fall.each (f.2, f.3)) part.0 (of.each f.0 f.1 part.0 (f.2, f.3) part.1) paths (here (HasChoice paths) found.parts f.0 part.0 chosen part.1) i s f.4 st

@@ -13,10 +13,10 @@ use Rattle.stable_search.specs.Groups.{at_places, AreCovered, AreGroups}
 use Rattle.stable_search.specs.Picks.{Has, Solves, Narrows}
 use Rattle.stable_search.proofs.NarrowLemmas.{has_left, narrows_then, in_before}
 
-has_either : (a b v : ℕ) → Has a v → Has (bit_or a b) v
+pub has_either : (a b v : ℕ) → Has a v → Has (bit_or a b) v
 has_either a b v h = let e = bit_at_or a b v in let l = bit_at-lt b v in omega (arith, e, l, h)
 
-has_both : (a b v : ℕ) → Has a v → Has b v → Has (bit_and a b) v
+pub has_both : (a b v : ℕ) → Has a v → Has b v → Has (bit_and a b) v
 has_both a b v h g = let e = bit_at_and a b v in omega (arith, e, h, g)
 
 -- the values of one pick more
@@ -33,8 +33,7 @@ seen_on picks i k pick slice seen lt is same_slice low before j jlt = elim (case
       has_either seen (1 * 2 ^ (get_or slice k 0) % 18446744073709551616) (get_or (get_or picks j []) k 0) (before j under)
 ]
 
-module _ (ways : List Way) (sets : List ℕ) (place k seen : ℕ) (picks : List (List ℕ)) (inside : place < length sets) (all : All (λ pick. Has seen (get_or pick k 0)) picks)
-    (covered : (pick : List ℕ) → Solves ways sets pick → Any (λ other. get_or other k 0 ≡ get_or pick place 0) picks) where
+module _ (ways : List Way) (sets : List ℕ) (place seen : ℕ) (inside : place < length sets) (seen_there : (pick : List ℕ) → Solves ways sets pick → Has seen (get_or pick place 0)) where
   abbrev left : ℕ
   left = bit_and (get_or sets place 0) seen
 
@@ -43,11 +42,6 @@ module _ (ways : List Way) (sets : List ℕ) (place k seen : ℕ) (picks : List 
 
   elsewhere : (i : ℕ) → ((i < place) ⊎ (place < i)) → get_or (set sets place left) i 0 ≡ get_or sets i 0
   elsewhere i differ = get_or-set_other sets place i left 0 (λ e. elim differ [ inl l ↦ omega (arith, l, e) | inr m ↦ omega (arith, m, e) ])
-
-  seen_there : (pick : List ℕ) → Solves ways sets pick → Has seen (get_or pick place 0)
-  seen_there pick s =
-      let any = covered pick s in
-      subst (Has seen) any.4 (subst (λ (xs : List ℕ). Has seen (get_or xs k 0)) any.3 (all any.0 any.1 any.2))
 
   stays : (pick : List ℕ) → Solves ways sets pick → (i : ℕ) → i < length sets → Has (get_or (set sets place left) i 0) (get_or pick i 0)
   stays pick s i lt = elim (cases_order i place) [
@@ -66,9 +60,9 @@ module _ (ways : List Way) (sets : List ℕ) (place k seen : ℕ) (picks : List 
     | inr differ ↦ subst (λ (n : ℕ). Has n value) (elsewhere i differ) has
   ]
 
-  -- a place keeps the values that picks have there, and each that solves has one of theirs
-  pub kept_at : Narrows ways sets (set sets place left)
-  kept_at = record {
+  -- a place keeps what is marked there, and each pick that solves has a value that is
+  pub kept_by : Narrows ways sets (set sets place left)
+  kept_by = record {
     size = length-set sets place left;
     keeps = λ pick s. record {
       size = s.inside.size ∙ sym (length-set sets place left);
@@ -77,6 +71,13 @@ module _ (ways : List Way) (sets : List ℕ) (place k seen : ℕ) (picks : List 
     };
     fewer = λ i value has. was i value has;
   }
+
+-- a place keeps the values that picks have there, and each that solves has one of theirs
+pub kept_at : (ways : List Way) (sets : List ℕ) (place k seen : ℕ) (picks : List (List ℕ)) → place < length sets → All (λ pick. Has seen (get_or pick k 0)) picks
+    → ((pick : List ℕ) → Solves ways sets pick → Any (λ other. get_or other k 0 ≡ get_or pick place 0) picks) → Narrows ways sets (set sets place (bit_and (get_or sets place 0) seen))
+kept_at ways sets place k seen picks inside all covered = kept_by ways sets place seen inside (λ pick s.
+    (let any = covered pick s in
+    subst (Has seen) any.4 (subst (λ (xs : List ℕ). Has seen (get_or xs k 0)) any.3 (all any.0 any.1 any.2))))
 
 -- one place more of a group
 pub kept_on : (ways : List Way) (places : List ℕ) (picks : List (List ℕ)) (k place : ℕ) (old now new : List ℕ) → k < length places → place ≡ get_or places k 0 → AreCovered ways old places picks → Narrows ways old now

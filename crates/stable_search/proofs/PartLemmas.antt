@@ -15,9 +15,9 @@ use Rattle.stable_search.specs.declared.refusal.SearchError.TheVariants as refus
 use Rattle.stable_search.specs.declared.seat.Seat.{Seat}
 use Rattle.stable_search.specs.declared.stop.Stop.TheVariants as stops
 use Rattle.stable_search.specs.declared.way.Way.{Way}
-use Rattle.stable_search.specs.Picks.{Has, IsIn, FitsWay, IsWithin, AreWithin, Solves, AreAll, AddsMore, IsFull, Narrows}
-use Rattle.stable_search.specs.Groups.{at_places, IsPickOf, IsGroup, AreGroups, RefusesSearch, ArePlaces, FitsBetween, RefusesPlaces, FindsGroups}
-use Rattle.stable_search.specs.Parting.{IsFree, AreLeast, Joins, AreLabels, InPart, KeepsPart, IsPartSets, IsPartGroup, AreGrouped}
+use Rattle.stable_search.specs.Picks.{Has, IsIn, FitsWay, IsWithin, AreWithin, Solves, AreAll, AddsMore, IsFull, Narrows, SeesAll}
+use Rattle.stable_search.specs.Groups.{at_places, IsAway, IsPickOf, IsGroup, AreGroups, RefusesSearch, ArePlaces, FitsBetween, RefusesPlaces, FindsGroups}
+use Rattle.stable_search.specs.Parting.{IsFree, IsAlone, AreLeast, Joins, AreLabels, InPart, KeepsPart, IsPartSets, IsPartGroup, AreGrouped}
 use Rattle.stable_search.proofs.NarrowLemmas.{in_before}
 
 pub in_all : (a b v : ℕ) → bit_and a b ≡ a → Has a v → Has b v
@@ -26,6 +26,16 @@ in_all a b v e h =
     let s : bit_at (bit_and a b) v ≡ bit_at a v = ap (λ (n : ℕ). bit_at n v) e in
     let x = bit_at-lt b v in
     omega (arith, m, s, x, h)
+
+cons_all : (P : Way → Type 0) (v : Way) (vs : List Way) → P v → All P vs → (k : ℕ) (d : Way) → k < length (v ∷ vs) → P (get_or (v ∷ vs) k d)
+cons_all P v vs p q zero d l = p
+cons_all P v vs p q (suc k) d l = q k d (omega (arith, l))
+
+pub split_last : (P : Way → Type 0) (ws : List Way) (w : Way) → All P (ws ++ w ∷ []) → All P ws × P w
+split_last P [] w h = ((λ k d l. absurd (omega (arith, l))), h 0 w (omega arith))
+split_last P (v ∷ vs) w h =
+    let rest = split_last P vs w (λ k d l. h (suc k) d (omega (arith, l))) in
+    (cons_all P v vs (h 0 v (omega arith)) rest.0, rest.1)
 
 -- ---- labels
 
@@ -39,6 +49,10 @@ labels_on sets ways i way labels new within lt is size joins are = record {
       subst (λ (ws : List Way). k < length ws → IsFree sets (get_or ws k d) ⊎ (get_or new (get_or ws k d).from 0 ≡ get_or new (get_or ws k d).to 0)) (sym more)
       (λ l. All-push (λ (w : Way). IsFree sets w ⊎ (get_or new w.from 0 ≡ get_or new w.to 0)) (take i ways) way before joins.joined k d l) klt);
   least = joins.least are.least;
+  alone = λ place plt all.
+      (let more : take (i + 1) ways ≡ take i ways ++ way ∷ [] = take_more ways i way lt ∙ ap (λ (w : Way). take i ways ++ w ∷ []) (sym is) in
+      let both = split_last (IsAway place) (take i ways) way (subst (All (IsAway place)) more all) in
+      joins.alone place (omega (arith, plt, are.size)) both.1 (are.alone place plt both.0));
 }
   where
     before : All (λ (w : Way). IsFree sets w ⊎ (get_or new w.from 0 ≡ get_or new w.to 0)) (take i ways)
@@ -58,6 +72,7 @@ labels_start sets labels size own = record {
   least = λ i lt.
       (let e = own i (omega (arith, lt, size)) in
       (omega (arith, e), ap (λ (n : ℕ). get_or labels n 0) e));
+  alone = λ place plt all other olt same. (let a = own other (omega (arith, olt, size)) in let b = own place plt in omega (arith, a, b, same));
 }
 
 module _ (sets : List ℕ) (way : Way) (old new : List ℕ) (one other : ℕ) (up : one ≤ other) (size : length new ≡ length old)
@@ -104,12 +119,25 @@ module _ (sets : List ℕ) (way : Way) (old new : List ℕ) (one other : ℕ) (u
               )
         ]
 
+    -- a place that is neither of the two
+    merged_alone : (place : ℕ) → place < length old → (a ≢ place) → (b ≢ place) → IsAlone old place → IsAlone new place
+    merged_alone place plt not_a not_b alone i nlt same =
+        let ilt : i < length old = omega (arith, nlt, size) in
+        let mine : get_or new place 0 ≡ get_or old place 0 = at_rest place plt (λ e. not_b (alone b blt (b_is ∙ sym e))) in
+        elim (cases_eq (get_or old i 0) other) [
+          | inl here ↦
+              let e : get_or old place 0 ≡ one = sym mine ∙ sym same ∙ at_other i ilt here in
+              absurd (not_a (alone a alt (a_is ∙ sym e)))
+          | inr not ↦ alone i ilt (sym (at_rest i ilt not) ∙ same ∙ mine)
+        ]
+
     pub joins_up : way.from ≡ a → way.to ≡ b → Joins sets way old new
     joins_up from to = record {
       kept = merged_kept;
       low = merged_low;
       joined = inr (ap (λ (n : ℕ). get_or new n 0) from ∙ at_one a alt a_is ∙ sym (at_other b blt b_is) ∙ ap (λ (n : ℕ). get_or new n 0) (sym to));
       least = merged_least;
+      alone = λ place plt away. merged_alone place plt (λ e. away.0 (from ∙ e)) (λ e. away.1 (to ∙ e));
     }
 
     pub joins_down : way.from ≡ b → way.to ≡ a → Joins sets way old new
@@ -118,6 +146,7 @@ module _ (sets : List ℕ) (way : Way) (old new : List ℕ) (one other : ℕ) (u
       low = merged_low;
       joined = inr (ap (λ (n : ℕ). get_or new n 0) from ∙ at_other b blt b_is ∙ sym (at_one a alt a_is) ∙ ap (λ (n : ℕ). get_or new n 0) (sym to));
       least = merged_least;
+      alone = λ place plt away. merged_alone place plt (λ e. away.1 (to ∙ e)) (λ e. away.0 (from ∙ e));
     }
 
 pub joins_free : (sets : List ℕ) (way : Way) (labels : List ℕ) → IsFree sets way → Joins sets way labels labels
@@ -126,6 +155,7 @@ joins_free sets way labels free = record {
   low = λ n all i lt. all i lt;
   joined = inl free;
   least = λ least. least;
+  alone = λ place plt away alone. alone;
 }
 
 -- ---- places of a label
@@ -174,16 +204,6 @@ same_fit pick way copy a b f =
     let bit_is : bit_at (get_or copy.fits.items (get_or pick copy.from 0) 0) (get_or pick copy.to 0) ≡ bit_at (get_or way.fits.items (get_or pick way.from 0) 0) (get_or pick way.to 0) =
     ap (λ (n : ℕ). bit_at n (get_or pick copy.to 0)) set_is ∙ ap (λ (k : ℕ). bit_at (get_or way.fits.items (get_or pick way.from 0) 0) (get_or pick k 0)) b in
     ((λ h. sym bit_is ∙ h), (λ h. bit_is ∙ h))
-
-cons_all : (P : Way → Type 0) (v : Way) (vs : List Way) → P v → All P vs → (k : ℕ) (d : Way) → k < length (v ∷ vs) → P (get_or (v ∷ vs) k d)
-cons_all P v vs p q zero d l = p
-cons_all P v vs p q (suc k) d l = q k d (omega (arith, l))
-
-split_last : (P : Way → Type 0) (ws : List Way) (w : Way) → All P (ws ++ w ∷ []) → All P ws × P w
-split_last P [] w h = ((λ k d l. absurd (omega (arith, l))), h 0 w (omega arith))
-split_last P (v ∷ vs) w h =
-    let rest = split_last P vs w (λ k d l. h (suc k) d (omega (arith, l))) in
-    (cons_all P v vs (h 0 v (omega arith)) rest.0, rest.1)
 
 module _ (labels : List ℕ) (label : ℕ) (ways : List Way) (i : ℕ) (way : Way) (lt : i < length ways) (is : way ≡ get_or ways i way) where
   more : take (i + 1) ways ≡ take i ways ++ way ∷ []
@@ -327,6 +347,13 @@ module _ (ways : List Way) (sets labels : List ℕ) (label : ℕ) (size : length
         let p = place_of k klt in
         get_or_default (at_places (masked labels pick) places) k d 0 lt ∙ at_index (masked labels pick) k klt ∙ m_in (get_or places k 0) p.0 p.1 ∙ sym (at_index pick k klt)
         ∙ get_or_default (at_places pick places) k 0 d (omega (arith, klt, b))))
+
+  -- what picks of the part have at its places is what picks have there
+  pub part_sees : (seen : List ℕ) → SeesAll part_ways part_sets places seen → SeesAll ways sets places seen
+  part_sees seen sees place c pick s =
+      let here = (exact place).0 c in
+      subst (Has (get_or seen place 0)) (m_in pick s.inside place here.0 here.1)
+      (sees place c (masked labels pick) (m_solves pick s.inside (λ k d lt inside. s.fits k d lt)))
 
   -- picks that solve and have the same values at the places are the same
   solved_once : (a b : List ℕ) → Solves part_ways part_sets a → Solves part_ways part_sets b → at_places a places ≡ at_places b places → a ≡ b
@@ -499,6 +526,11 @@ grouped_all sets labels ways n groups within of le are = record {
       let up = are.order i j d lt inside (get_or (get_or groups i d).places 0 0) (get_or (get_or groups j d).places 0 0) (Contains-get_or (get_or groups i d).places 0 0 one.2.group.some)
       (Contains-get_or (get_or groups j d).places 0 0 other.2.group.some) in
       omega (arith, up, first, next));
+  alone = λ place plt all k d lt here other there.
+      (let x = are.each k d lt in
+      let mine = (x.2.places place).0 here in
+      let theirs = (x.2.places other).0 there in
+      of.alone place plt all other theirs.0 (theirs.1 ∙ sym mine.1));
 }
   where
     group_of : (place : ℕ) → place < length sets → Any (λ group. Contains group.places place) groups
@@ -564,6 +596,16 @@ refused_before seats ways old new most (refusals.TooManySteps routers) narrows r
     (r.0, record { inside = λ k d lt. (let x = r.1.inside k d lt in omega (arith, x, narrows.size)); some = r.1.some; rising = r.1.rising }, r.2)
 refused_before seats ways old new most refusals.Memory narrows r = tt
 
+-- a group of sets that a narrowing left is one of the sets before
+pub group_before : (ways : List Way) (old new : List ℕ) (group : Group) → Narrows ways old new → IsGroup new group → IsGroup old group
+group_before ways old new group narrows g = record {
+  inside = λ i e ilt. (let x = g.inside i e ilt in omega (arith, x, narrows.size));
+  some = g.some;
+  rising = g.rising;
+  picks = λ i e ilt. (let x = g.picks i e ilt in record { size = x.size; low = x.low; each = λ m mlt. narrows.fewer _ _ (x.each m mlt) });
+  once = g.once;
+}
+
 -- the groups of sets that a narrowing left are those of the sets before
 pub groups_before : (ways : List Way) (old new : List ℕ) (groups : List Group) → Narrows ways old new → AreGroups ways new groups → AreGroups ways old groups
 groups_before ways old new groups narrows are = record {
@@ -581,6 +623,7 @@ groups_before ways old new groups narrows are = record {
   places = λ place lt. are.places place (omega (arith, lt, narrows.size));
   apart = are.apart;
   order = are.order;
+  alone = λ place lt all. are.alone place (omega (arith, lt, narrows.size)) all;
 }
 
 -- what is found of sets that a narrowing left is found of the sets before

@@ -25,12 +25,12 @@ use Rattle.stable_search.proofs.RelateLemmas.{same_seat}
 -- ---- a pick as an assignment
 
 -- the path that a pick gives a router
-value_at : List Seat → List ℕ → ℕ → List ℕ
+pub value_at : List Seat → List ℕ → ℕ → List ℕ
 value_at [] pick u = []
 value_at (s ∷ ss) [] u = []
 value_at (s ∷ ss) (v ∷ vs) u = cond (s.router == u) (get_or s.values.items v []) (value_at ss vs u)
 
-value_is : (seats : List Seat) (pick : List ℕ) (i : ℕ) (s : Seat) → ((a b : ℕ) (x y : Seat) → StandsAt seats a x → StandsAt seats b y → x.router ≡ y.router → a ≡ b) → StandsAt seats i s → length pick ≡ length seats
+pub value_is : (seats : List Seat) (pick : List ℕ) (i : ℕ) (s : Seat) → ((a b : ℕ) (x y : Seat) → StandsAt seats a x → StandsAt seats b y → x.router ≡ y.router → a ≡ b) → StandsAt seats i s → length pick ≡ length seats
     → value_at seats pick s.router ≡ get_or s.values.items (get_or pick i 0) []
 unfolding value_at
 value_is [] pick i s once st size = absurd (omega (arith, st.0))
@@ -184,8 +184,8 @@ memory_refused p limits (Err why) h = subst (IsRefusal p limits) (sym h) tt
 -- ---- how many choices
 
 -- parts have as many choices as their groups have picks
-pub few_parts : (seats : List Seat) (groups : List Group) (parts : List Component) (most : ℕ) → ArePartsOf seats groups parts → All (λ group. length group.picks ≤ most) groups → AreFew most parts
-few_parts seats groups parts most of few g d lt =
+pub few_parts : (seats : List Seat) (levels : List ℕ) (groups : List Group) (parts : List Component) (most : ℕ) → ArePartsOf seats levels groups parts → All (λ group. length group.picks ≤ most) groups → AreFew most parts
+few_parts seats levels groups parts most of few g d lt =
     let group = stands groups g (omega (arith, lt, of.size)) in
     let part = get_or parts g d in
     let count = (of.each g group.0 part group.1 (lt, get_or_default parts g part d lt)).count in

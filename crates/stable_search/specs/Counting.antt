@@ -1,5 +1,5 @@
 -- How many stable assignments there are.
-use Rattle.std.specs.Prelude.{ℕ, ◌≡◌, ◌≢◌, ◌↔◌, false, List, [], length, map}
+use Rattle.std.specs.Prelude.{ℕ, ◌≡◌, ◌≢◌, ◌↔◌, Bool, false, not, List, [], filter, length, map}
 use Rattle.std.specs.List.{All, AllPairs, Contains}
 use Rattle.ranked_policy.specs.Plans.{IsRouter}
 use Rattle.stable_paths.specs.Stable.{Problem, IsProblem, IsStable}
@@ -11,13 +11,21 @@ use Rattle.stable_search.specs.Every.{number_of, IsEveryStable}
 abbrev pub what_all_have : (ℕ → List ℕ) → List Component → List (List (List ℕ))
 what_all_have paths parts = map (λ part. map paths part.routers) parts
 
--- combinations of choices, as many as the product of the numbers of choices, none listed twice; each is what all
--- routers have in a stable assignment, and an assignment is stable exactly where what all have in it is one of them
+-- a part that doesn't follow
+abbrev pub leads : Component → Bool
+leads part = not part.follows
+
+-- combinations of choices of the parts that don't follow, as many as the product of the numbers of choices, none listed
+-- twice; each is what the routers of these parts have in a stable assignment, and what they have in each stable
+-- assignment is one of them; two stable assignments in which they have the same are one
 pub record AreCounted (p : Problem) (parts : List Component) (found : List (List (List (List ℕ)))) : Type 0 where
   pub count : length found ≡ number_of parts
   pub once : AllPairs (λ one other. one ≢ other) found
-  pub each : All (λ one. (paths : ℕ → List ℕ) × IsStable p paths × (one ≡ what_all_have paths parts)) found
-  pub exact : (paths : ℕ → List ℕ) → (IsStable p paths ↔ Contains found (what_all_have paths parts))
+  pub each : All (λ one. (paths : ℕ → List ℕ) × IsStable p paths × (one ≡ what_all_have paths (filter leads parts))) found
+  pub all : (paths : ℕ → List ℕ) → IsStable p paths → Contains found (what_all_have paths (filter leads parts))
+  pub decided : (one other : ℕ → List ℕ) → IsStable p one → IsStable p other
+      → what_all_have one (filter leads parts) ≡ what_all_have other (filter leads parts)
+      → (u : ℕ) → IsRouter p.net.routers u → one u ≡ other u
 
 -- the number of stable assignments is the product of the numbers of choices
 abbrev pub StableAreCounted : Type 0

@@ -1,5 +1,5 @@
 -- All stable assignments, part by part.
-use Rattle.std.specs.Prelude.{ℕ, ◌≡◌, ◌≢◌, ◌<◌, ◌≤◌, ◌*◌, ◌^◌, ◌↔◌, List, [], ◌∷◌, Option, Some, None, length, map, slice_index}
+use Rattle.std.specs.Prelude.{ℕ, ◌≡◌, ◌≢◌, ◌<◌, ◌≤◌, ◌*◌, ◌^◌, ◌↔◌, true, false, if◌then◌else◌, List, [], ◌∷◌, Option, Some, None, length, map, slice_index}
 use Rattle.std.specs.List.{All, AllPairs, Any, Contains}
 use Rattle.ranked_policy.specs.Plans.{IsRouter}
 use Rattle.stable_paths.specs.Stable.{Problem, IsStable}
@@ -10,26 +10,46 @@ use Rattle.stable_search.specs.declared.every.Every.{Every}
 abbrev pub HasChoice : (ℕ → List ℕ) → Component → Type 0
 HasChoice paths part = Contains part.choices (map paths part.routers)
 
--- routers, rising, with choices of a path for each, none listed twice
+-- routers, rising, with choices of a path for each, none listed twice; a part that follows is one router with several
 pub record IsPart (part : Component) : Type 0 where
   pub some : 0 < length part.routers
   pub rising : AllPairs (λ u v. u < v) part.routers
   pub whole : All (λ choice. length choice ≡ length part.routers) part.choices
   pub once : AllPairs (λ choice later. choice ≢ later) part.choices
+  pub alone : part.follows ≡ true → (length part.routers ≡ 1) × (1 < length part.choices)
 
--- an assignment is stable exactly where each part has one of its choices; each router is in one part; parts stand by
--- their least routers
+-- the parts that don't follow have one of their choices
+abbrev pub HaveChoices : (ℕ → List ℕ) → List Component → Type 0
+HaveChoices paths parts = All (λ part. part.follows ≡ false → HasChoice paths part) parts
+
+-- the routers of the parts that don't follow have the same paths in both
+abbrev pub Agree : (ℕ → List ℕ) → (ℕ → List ℕ) → List Component → Type 0
+Agree paths others parts = All (λ part. part.follows ≡ false → map paths part.routers ≡ map others part.routers) parts
+
+-- a stable assignment has one of the choices of each part, and any choices of the parts that don't follow are had in
+-- exactly one; each router is in one part; parts stand by their least routers
 pub record IsEveryStable (p : Problem) (every : Every) : Type 0 where
-  pub exact : (paths : ℕ → List ℕ) → (IsStable p paths ↔ All (HasChoice paths) every.parts)
+  pub listed : (paths : ℕ → List ℕ) → IsStable p paths → All (HasChoice paths) every.parts
+  pub whole : (paths : ℕ → List ℕ) → HaveChoices paths every.parts
+      → (stable : ℕ → List ℕ) × IsStable p stable × Agree stable paths every.parts
+  pub decided : (one other : ℕ → List ℕ) → IsStable p one → IsStable p other → Agree one other every.parts
+      → (u : ℕ) → IsRouter p.net.routers u → one u ≡ other u
   pub parts : All IsPart every.parts
   pub routers : (u : ℕ) → (IsRouter p.net.routers u ↔ Any (λ part. Contains part.routers u) every.parts)
   pub apart : AllPairs (λ part later. (u : ℕ) → Contains part.routers u → Contains later.routers u → ⊥) every.parts
   pub order : AllPairs (λ part later. slice_index part.routers 0 < slice_index later.routers 0) every.parts
+  -- a part follows only where one that doesn't has no choice or several
+  pub needed : Any (λ part. part.follows ≡ true) every.parts
+      → Any (λ part. (part.follows ≡ false) × (length part.choices ≢ 1)) every.parts
 
--- the product of the numbers of choices
+-- the number of choices of a part; 1 if it follows
+abbrev pub factor_of : Component → ℕ
+factor_of part = if part.follows then 1 else length part.choices
+
+-- the product of the numbers of choices of the parts that don't follow
 abbrev pub number_of : List Component → ℕ
 number_of [] = 1
-number_of (part ∷ parts) = length part.choices * number_of parts
+number_of (part ∷ parts) = factor_of part * number_of parts
 
 -- a number that fits a word of 64 bits, or none for one that doesn't
 abbrev pub IsCount : ℕ → Option ℕ → Type 0

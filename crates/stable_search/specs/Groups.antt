@@ -1,5 +1,5 @@
 -- Places that fall into groups, each with its own picks.
-use Rattle.std.specs.Prelude.{ℕ, ◌≡◌, ◌≢◌, ◌↔◌, ◌<◌, ◌≤◌, ⊤, List, [], length, map, slice_index, slice_index_or, Result, Ok, Err, Vec}
+use Rattle.std.specs.Prelude.{ℕ, ◌≡◌, ◌≢◌, ◌↔◌, ◌<◌, ◌≤◌, ⊤, IsTrue, List, [], length, map, slice_index, slice_index_or, Result, Ok, Err, Vec}
 use Rattle.std.specs.List.{All, AllPairs, Any, Contains}
 use mathlib.Core.Logic.{◌⊎◌}
 use Rattle.stable_search.specs.declared.every.Component.{Component}
@@ -10,7 +10,7 @@ use Rattle.stable_search.specs.declared.seat.Seat.{Seat}
 use Rattle.stable_search.specs.declared.stop.Stop.{Stop}
 use Rattle.stable_search.specs.declared.stop.Stop.TheVariants as stops
 use Rattle.stable_search.specs.declared.way.Way.{Way}
-use Rattle.stable_search.specs.Picks.{Has, FitsWay, IsFull, Solves}
+use Rattle.stable_search.specs.Picks.{Has, FitsWay, IsFull, Narrows, Solves}
 use Rattle.stable_search.specs.Seats.{StandsAt}
 
 -- the values that a pick has at these places
@@ -40,6 +40,10 @@ pub record IsGroup (sets : List ℕ) (group : Group) : Type 0 where
 abbrev pub AreCovered : List Way → List ℕ → List ℕ → List (List ℕ) → Type 0
 AreCovered ways sets places picks = (pick : List ℕ) → Solves ways sets pick → Contains picks (at_places pick places)
 
+-- the way leads to no such place, nor from it
+abbrev pub IsAway : ℕ → Way → Type 0
+IsAway place way = (way.from ≢ place) × (way.to ≢ place)
+
 -- a pick solves exactly where its values at each group's places are one of the group's picks; each place is in one
 -- group; groups stand by their least places
 pub record AreGroups (ways : List Way) (sets : List ℕ) (groups : List Group) : Type 0 where
@@ -50,6 +54,9 @@ pub record AreGroups (ways : List Way) (sets : List ℕ) (groups : List Group) :
   pub apart : AllPairs (λ group later. (place : ℕ) → Contains group.places place → Contains later.places place
       → ⊥) groups
   pub order : AllPairs (λ group later. slice_index group.places 0 < slice_index later.places 0) groups
+  -- a place without a way is a group by itself
+  pub alone : (place : ℕ) → place < length sets → All (IsAway place) ways
+      → All (λ group. Contains group.places place → (other : ℕ) → Contains group.places other → other ≡ place) groups
 
 -- the sets have the values of each seat
 abbrev pub AreValues : List Seat → List ℕ → Type 0
@@ -70,17 +77,22 @@ pub record AreRoutersAt (seats : List Seat) (places routers : List ℕ) : Type 0
   pub each : (k : ℕ) (seat : Seat) → k < length places → StandsAt seats (slice_index places k) seat
       → slice_index routers k ≡ seat.router
 
+-- a group of a place that follows others and has several values
+abbrev pub IsLed : List ℕ → Group → Type 0
+IsLed levels group = (1 < length group.picks) × (0 < slice_index levels (slice_index group.places 0))
+
 -- the part of a group
-pub record IsPartOf (seats : List Seat) (group : Group) (part : Component) : Type 0 where
+pub record IsPartOf (seats : List Seat) (levels : List ℕ) (group : Group) (part : Component) : Type 0 where
   pub routers : AreRoutersAt seats group.places part.routers
   pub count : length part.choices ≡ length group.picks
   pub shown : (j : ℕ) → j < length group.picks
       → IsShown seats group.places (slice_index_or group.picks j []) (slice_index_or part.choices j [])
+  pub follows : IsTrue part.follows ↔ IsLed levels group
 
-pub record ArePartsOf (seats : List Seat) (groups : List Group) (parts : List Component) : Type 0 where
+pub record ArePartsOf (seats : List Seat) (levels : List ℕ) (groups : List Group) (parts : List Component) : Type 0 where
   pub size : length parts ≡ length groups
   pub each : (g : ℕ) (group : Group) (part : Component) → StandsAt groups g group → StandsAt parts g part
-      → IsPartOf seats group part
+      → IsPartOf seats levels group part
 
 -- ---- refusals
 
@@ -124,7 +136,15 @@ RefusesPlaces seats ways sets most (refusals.TooManySteps routers) =
     (places : List ℕ) × ArePlaces sets places × AreRoutersAt seats places routers
 RefusesPlaces seats ways sets most refusals.Memory = ⊤
 
+-- groups, none with more picks than so many
+abbrev pub HaveGroups : List Way → List ℕ → ℕ → List Group → Type 0
+HaveGroups ways sets most groups = AreGroups ways sets groups × All (λ group. length group.picks ≤ most) groups
+
+-- those of sets that are narrowed
+abbrev pub FoundGroups : List Way → List ℕ → ℕ → List Group → Type 0
+FoundGroups ways sets most groups = (now : List ℕ) × Narrows ways sets now × HaveGroups ways now most groups
+
 -- the groups that a search finds, none with more picks than so many; or its refusal
 abbrev pub FindsGroups : {Z : Type 0} → List Seat → List Way → List ℕ → ℕ → Result (Vec Group Z) SearchError → Type 0
-FindsGroups seats ways sets most (Ok groups) = AreGroups ways sets groups.items × All (λ group. length group.picks ≤ most) groups.items
+FindsGroups seats ways sets most (Ok groups) = HaveGroups ways sets most groups.items
 FindsGroups seats ways sets most (Err why) = RefusesPlaces seats ways sets most why

@@ -6,7 +6,9 @@ pub mod Picks
 pub mod Seats
 pub mod Choosers
 pub mod Fixing
+pub mod Following
 pub mod Reaching
 pub mod Listing
 pub mod Groups
 pub mod Parting
+pub mod Led

@@ -5,7 +5,7 @@ use mathlib.Core.Logic.{◌⊎◌}
 use Rattle.stable_search.specs.declared.group.Group.{Group}
 use Rattle.stable_search.specs.declared.way.Way.{Way}
 use Rattle.stable_search.specs.Picks.{Has, IsIn, FitsWay}
-use Rattle.stable_search.specs.Groups.{at_places, IsGroup}
+use Rattle.stable_search.specs.Groups.{at_places, IsAway, IsGroup}
 
 -- each value of one place of a way fits each value of the other
 abbrev pub IsFree : List ℕ → Way → Type 0
@@ -18,8 +18,13 @@ abbrev pub AreLeast : List ℕ → Type 0
 AreLeast labels =
     (i : ℕ) → i < length labels → (slice_index labels i ≤ i) × (slice_index labels (slice_index labels i) ≡ slice_index labels i)
 
+-- no other place has the label of this one
+abbrev pub IsAlone : List ℕ → ℕ → Type 0
+IsAlone labels place =
+    (other : ℕ) → other < length labels → slice_index labels other ≡ slice_index labels place → other ≡ place
+
 -- places that share a label still share one; no label is new; the two places of the way share a label, or the way is
--- free
+-- free; a place to which the way doesn't lead stays alone
 pub record Joins (sets : List ℕ) (way : Way) (old new : List ℕ) : Type 0 where
   pub kept : (i j : ℕ) → i < length old → j < length old → slice_index old i ≡ slice_index old j
       → slice_index new i ≡ slice_index new j
@@ -27,13 +32,15 @@ pub record Joins (sets : List ℕ) (way : Way) (old new : List ℕ) : Type 0 whe
       → slice_index new i < n
   pub joined : IsFree sets way ⊎ (slice_index new way.from ≡ slice_index new way.to)
   pub least : AreLeast old → AreLeast new
+  pub alone : (place : ℕ) → place < length old → IsAway place way → IsAlone old place → IsAlone new place
 
--- the ways that aren't free join places with one label
+-- the ways that aren't free join places with one label; a place without a way is alone
 pub record AreLabels (sets : List ℕ) (ways : List Way) (labels : List ℕ) : Type 0 where
   pub size : length labels ≡ length sets
   pub low : (i : ℕ) → i < length sets → slice_index labels i < length sets
   pub joined : All (λ way. IsFree sets way ⊎ (slice_index labels way.from ≡ slice_index labels way.to)) ways
   pub least : AreLeast labels
+  pub alone : (place : ℕ) → place < length sets → All (IsAway place) ways → IsAlone labels place
 
 -- both places of the way have the label
 abbrev pub InPart : List ℕ → ℕ → Way → Type 0

@@ -65,6 +65,18 @@ pub record Narrows (ways : List Way) (old new : List ℕ) : Type 0 where
   pub keeps : (pick : List ℕ) → Solves ways old pick → IsIn new pick
   pub fewer : (place value : ℕ) → Has (slice_index new place) value → Has (slice_index old place) value
 
+-- no mark is lost
+abbrev pub MarksMore : List ℕ → List ℕ → Type 0
+MarksMore old new = (place value : ℕ) → Has (slice_index old place) value → Has (slice_index new place) value
+
+-- each value that a pick which solves has at the place is marked
+abbrev pub Sees : List Way → List ℕ → ℕ → List ℕ → Type 0
+Sees ways sets place seen = (pick : List ℕ) → Solves ways sets pick → Has (slice_index seen place) (slice_index pick place)
+
+-- so it is at each of these places
+abbrev pub SeesAll : List Way → List ℕ → List ℕ → List ℕ → Type 0
+SeesAll ways sets places seen = (place : ℕ) → Contains places place → Sees ways sets place seen
+
 -- the value is the set's only one
 pub record IsOnly (values value : ℕ) : Type 0 where
   pub low : value < 64

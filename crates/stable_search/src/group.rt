@@ -1,17 +1,22 @@
 //! Places that are searched together.
 
-ghost use Rattle.std.specs.Prelude.{◌≡◌, ◌≢◌, ◌↔◌, ◌<◌, ◌≤◌, ℕ, List, IfOk, IfErr, length, slice_index};
-ghost use Rattle.std.specs.List.{All, AllPairs, Contains};
-ghost use Rattle.stable_search.specs.Groups.{IsGroup, AreGroups, TellsOf, RefusesSearch, RefusesPlaces, FindsGroups};
+ghost use Rattle.std.specs.Prelude.{◌≡◌, ◌≢◌, ◌↔◌, ◌<◌, ◌≤◌, ℕ, List, IfOk, IfErr, IfSome, OnOk, IsTrue, length, slice_index};
+ghost use Rattle.std.specs.List.{All, AllPairs, Any, Contains};
+ghost use Rattle.stable_search.specs.Following.{AreLevels};
+ghost use Rattle.stable_search.specs.Groups.{IsGroup, AreGroups, FoundGroups, TellsOf, RefusesSearch, RefusesPlaces, FindsGroups};
+ghost use Rattle.stable_search.specs.Groups.{IsLed};
+ghost use Rattle.stable_search.specs.Led.{IsOpen, HaveLed, FindsLed};
 ghost use Rattle.stable_search.specs.Parting.{IsPartGroup};
 ghost use Rattle.stable_search.specs.Picks.{AreWithin, AreAll, Narrows};
 ghost use Rattle.stable_search.specs.declared.way.Way.{Way};
 
+use crate::following::{levels_of, no_levels};
 use crate::keeping::keep_seen;
 use crate::limits::SearchLimits;
 use crate::narrowing::narrow_all;
 use crate::parting::{all_values_at, labels_of, places_with, sets_with, ways_with};
 use crate::refusal::SearchError;
+use crate::sampling::keep_possible;
 use crate::searching::search;
 use crate::seat::{Seat, routers_at};
 use crate::stop::Stop;
@@ -28,8 +33,8 @@ pub(crate) struct Group {
     pub(crate) picks: NetItems<NetItems<usize>>,
 }
 
-// The refusal of a search that stopped, with the routers at the places that were searched.
-fn refusal(alloc: Global, seats: &[Seat], places: &[usize], stop: Stop) -> SearchError
+/// The refusal of a search that stopped, with the routers at the places that were searched.
+pub(crate) fn refusal(alloc: Global, seats: &[Seat], places: &[usize], stop: Stop) -> SearchError
     requires { All (λ place. place < length seats.now) places.now }
     ensures { TellsOf seats.now places.now stop result }
 {
@@ -151,23 +156,131 @@ fn keep_picked(groups: &[Group], sets: &mut [u64]) -> bool
     some
 }
 
+// The groups of places that bear on each other, if no value can be removed that none of their picks has. Else the sets are
+// without such values. Where a group has too many picks for a list, only so many of them are
+// found that this is known.
+fn first_groups(
+    alloc: Global,
+    seats: &[Seat],
+    ways: &[Way],
+    sets: &mut [u64],
+    limits: &SearchLimits,
+) -> Result<Option<Vec<Group>>, SearchError>
+    requires seats { length seats.now ≡ length sets.old }
+    requires within { AreWithin (length sets.old) ways.now }
+    ensures narrows { OnOk result (Narrows ways.now sets.old sets.new) }
+    ensures found { IfOk result (λ found. IfSome found (λ groups.
+        FoundGroups ways.now sets.old limits.now.most groups.items)) }
+    ensures refused { IfErr result (RefusesPlaces seats.now ways.now sets.old limits.now.most) }
+{
+    match groups_of(alloc, seats, ways, sets, limits) {
+        Ok(groups) => {
+            if keep_picked(groups.as_slice(), sets) {
+                Ok(None)
+            } else {
+                Ok(Some(groups))
+            }
+        }
+        Err(SearchError::TooManyChoices { routers: _ }) => {
+            keep_possible(alloc, seats, ways, sets, limits)?;
+            Ok(None)
+        }
+        Err(why) => Err(why),
+    }
+}
+
+/// Places in groups.
+#[derive(Debug, Drop)]
+pub(crate) struct Grouping {
+    /// The groups.
+    pub(crate) groups: Vec<Group>,
+    /// The level of each place: 0 if it follows none.
+    pub(crate) levels: Vec<usize>,
+}
+
+/// Whether a group is a place that follows others and has two values or more.
+pub(crate) fn is_led(group: &Group, levels: &[usize]) -> bool
+    requires some { 0 < length group.now.places }
+    requires inside { All (λ place. place < length levels.now) group.now.places }
+    ensures { IsTrue result ↔ IsLed levels.now group.now }
+{
+    group.picks.len() > 1 && levels[group.places.as_slice()[0]] > 0
+}
+
+// Whether some group that follows none has no pick, or several.
+fn has_open(groups: &[Group], levels: &[usize]) -> bool
+    requires some { All (λ group. 0 < length group.places) groups.now }
+    requires inside { All (λ group. All (λ place. place < length levels.now) group.places) groups.now }
+    ensures { IsTrue result → Any (IsOpen levels.now) groups.now }
+{
+    for group in groups {
+        if group.picks.len() != 1 && !is_led(group, levels) {
+            return true;
+        }
+    }
+    false
+}
+
+// The groups of the places that follow none, and each place that follows by itself. `None` if each of the first has one
+// pick, or if one has too many.
+fn led_groups(
+    alloc: Global,
+    seats: &[Seat],
+    ways: &[Way],
+    sets: &[u64],
+    levels: &[usize],
+    limits: &SearchLimits,
+) -> Result<Option<Vec<Group>>, SearchError>
+    requires seats { length seats.now ≡ length sets.now }
+    requires within { AreWithin (length sets.now) ways.now }
+    requires levels { length levels.now ≡ length sets.now }
+    ensures found { IfOk result (λ found. IfSome found (λ groups. (old wide : List ℕ) → Narrows ways.now old wide
+        → Narrows ways.now wide sets.now → AreLevels ways.now wide levels.now
+        → HaveLed ways.now old sets.now levels.now limits.now.most groups.items)) }
+    ensures refused { IfErr result (RefusesPlaces seats.now ways.now sets.now limits.now.most) }
+{
+    let core = ways_with(alloc, ways, levels, 0)?;
+    match groups_of(alloc, seats, core.as_slice(), sets, limits) {
+        Ok(groups) => {
+            if has_open(groups.as_slice(), levels) {
+                Ok(Some(groups))
+            } else {
+                Ok(None)
+            }
+        }
+        Err(SearchError::TooManyChoices { routers: _ }) => Ok(None),
+        Err(SearchError::TooManySteps { routers }) => Err(SearchError::TooManySteps { routers }),
+        Err(SearchError::TooManyPaths { router }) => Err(SearchError::TooManyPaths { router }),
+        Err(SearchError::Memory) => Err(SearchError::Memory),
+    }
+}
+
 /// The groups of places that bear on each other once the sets are narrowed, with their picks. A place that has one
-/// value in all picks of its group is a group by itself.
+/// value in all picks of its group is a group by itself, and so is one that follows others, unless all others have one
+/// pick.
 pub(crate) fn groups(
     alloc: Global,
     seats: &[Seat],
     ways: &[Way],
     sets: &mut [u64],
     limits: &SearchLimits,
-) -> Result<Vec<Group>, SearchError>
+) -> Result<Grouping, SearchError>
     requires seats { length seats.now ≡ length sets.old }
     requires within { AreWithin (length sets.old) ways.now }
-    ensures { FindsGroups seats.now ways.now sets.old limits.now.most result }
+    ensures { FindsLed seats.now ways.now sets.old limits.now.most result }
 {
     narrow_all(ways, sets, u64::MAX);
-    let groups = groups_of(alloc, seats, ways, sets, limits)?;
-    if !keep_picked(groups.as_slice(), sets) {
-        return Ok(groups);
+    let levels = levels_of(alloc, seats, ways, sets)?;
+    let first = first_groups(alloc, seats, ways, sets, limits)?;
+    if let Some(groups) = led_groups(alloc, seats, ways, sets, levels.as_slice(), limits)? {
+        return Ok(Grouping { groups, levels });
     }
-    groups_of(alloc, seats, ways, sets, limits)
+    let levels = no_levels(alloc, sets.len())?;
+    match first {
+        Some(groups) => Ok(Grouping { groups, levels }),
+        None => {
+            let groups = groups_of(alloc, seats, ways, sets, limits)?;
+            Ok(Grouping { groups, levels })
+        }
+    }
 }

@@ -3,7 +3,7 @@
 ghost use Rattle.std.specs.Prelude.{◌≡◌, ◌<◌, ℕ, List, length, slice_index};
 ghost use Rattle.std.specs.List.{All, Any};
 ghost use Rattle.stable_search.specs.Groups.{IsLowPick, AreCovered};
-ghost use Rattle.stable_search.specs.Picks.{Has, Solves, Narrows};
+ghost use Rattle.stable_search.specs.Picks.{Has, Solves, Narrows, Sees, SeesAll};
 ghost use Rattle.stable_search.specs.declared.way.Way.{Way};
 
 use ranked_policy::NetItems;
@@ -51,4 +51,27 @@ pub(crate) fn keep_seen(places: &[usize], picks: &[NetItems<usize>], sets: &mut 
         some |= keep_at(*place, k, picks, sets);
     }
     some
+}
+
+// Removes from the set of a place the values that are not marked there, unless none is left.
+fn keep_marked_at(place: usize, seen: &[u64], sets: &mut [u64])
+    requires inside { place < length sets.old }
+    requires seen { place < length seen.now }
+    ensures { (ways : List Way) → Sees ways sets.old place seen.now → Narrows ways sets.old sets.new }
+{
+    let left = sets[place] & seen[place];
+    if left != 0 {
+        sets[place] = left;
+    }
+}
+
+/// Removes from the sets of these places the values that are not marked there. A set of which none is left stays.
+pub(crate) fn keep_marked(places: &[usize], seen: &[u64], sets: &mut [u64])
+    requires inside { All (λ place. place < length sets.old) places.now }
+    requires size { length seen.now ≡ length sets.old }
+    ensures { (ways : List Way) → SeesAll ways sets.old places.now seen.now → Narrows ways sets.old sets.new }
+{
+    for place in places {
+        keep_marked_at(*place, seen, sets);
+    }
 }

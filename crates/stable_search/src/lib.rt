@@ -1,13 +1,18 @@
 //! All stable path assignments of a network, for one prefix (Griffin, Shepherd and Wilfong 2002).
 //!
-//! [`stable_assignments`] answers parts of the routers, each with its choices. The one contract: an assignment is
-//! stable exactly where it has one of the choices of each part. If a part has no choice, no assignment is stable; if
-//! each part has one, some assignment is. Their number is the product of the numbers of choices.
+//! [`stable_assignments`] answers parts of the routers, each with its choices. The one contract: a stable assignment
+//! has one of the choices of each part, and to any choices of the parts that don't follow belongs exactly one. If a part
+//! has no choice, no assignment is stable; if each part has one, some assignment is. Their number is the product of the
+//! numbers of choices of the parts that don't follow.
 //!
 //! The search is for values under relations of two: a router's path and its peer's path fit each other, or do not.
 //! Values that nothing fits are removed. Routers that do not bear on each other any more fall into parts. In a part the
 //! values of one router are tried in turn. Then the values that no choice has are removed, and the routers fall into
-//! parts anew: a router that has the same path in all choices of its part is a part by itself.
+//! parts anew: a router that has the same path in all choices of its part is a part by itself. Where a part has more
+//! choices than the limit, each value is tried until a choice has it, and what is left is parted before it is counted.
+//!
+//! A router follows if no router that doesn't follow cares which of its values it has, and if exactly one of them fits
+//! whatever values these have. It is a part by itself, and is left out where the others are searched and counted.
 //!
 //! A router without a rule may permit more paths than can be listed. Before the search, routers are fixed outwards from
 //! the origin: a router whose best path over a fixed peer is better than any that another peer could bring has that
@@ -21,7 +26,8 @@
 //! The definitions stand in `specs/`: `Fits` (what fits, and that stable is fitting), `Every` (what is
 //! answered), `Refusals` (what a refusal says), `Counting` (how many there are), `Choosers` and `Fixing`
 //! (routers that have one path in every stable assignment), `Reaching` (how long paths may be), `Listing` (what the
-//! others without a rule may have), `Picks`, `Seats`, `Groups` and `Parting` (what the functions inside say).
+//! others without a rule may have), `Picks`, `Seats`, `Groups`, `Parting`,
+//! `Following` and `Led` (what the functions inside say).
 //!
 //! Left out: routers without a rule for which so many paths are found; texts.
 #![tactic(auto)]
@@ -30,6 +36,7 @@ mod chooser;
 mod distance;
 mod every;
 mod fixing;
+mod following;
 mod group;
 mod keeping;
 pub mod laws;
@@ -41,6 +48,7 @@ mod picking;
 mod reach;
 mod refusal;
 mod relating;
+mod sampling;
 mod searching;
 mod seat;
 mod stable;

@@ -12,8 +12,8 @@ use crate::way::{Way, has};
 use ranked_policy::NetItems;
 use std::alloc::{AllocError, Global};
 
-// The values that fit a value over a way; none if the way says nothing of it.
-fn fitting(way: &Way, value: usize) -> u64
+/// The values that fit a value over a way; none if the way says nothing of it.
+pub(crate) fn fitting(way: &Way, value: usize) -> u64
     ensures { result ≡ slice_index way.now.fits.items value }
 {
     match way.fits.get(value) {
@@ -131,6 +131,7 @@ pub(crate) fn ways_with(
 ) -> Result<Vec<Way>, AllocError>
     requires { AreWithin (length labels.now) ways.now }
     ensures within { IfOk result (λ part. AreWithin (length labels.now) part.items) }
+    ensures inside { IfOk result (λ part. All (InPart labels.now label) part.items) }
     ensures part { IfOk result (λ part. KeepsPart labels.now label ways.now part.items) }
 {
     let mut part = Vec::new(alloc);

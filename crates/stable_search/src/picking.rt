@@ -8,8 +8,8 @@ use crate::way::Way;
 use ranked_policy::NetItems;
 use std::alloc::{AllocError, Global};
 
-// The only value of a set, if it has exactly one.
-fn only_value(set: u64) -> Option<usize>
+/// The only value of a set, if it has exactly one.
+pub(crate) fn only_value(set: u64) -> Option<usize>
     ensures { IfSome result (IsOnly set) }
 {
     if set == 0 {

@@ -182,3 +182,24 @@ pub(crate) fn ways_between(
     }
     Ok(ways)
 }
+
+// Whether each path of the first seat out of a set fits this path of its peer, at the first router.
+fn is_unmoved_by(one: &Seat, other: &Seat, mine: u64, path: &Path) -> bool {
+    let is_permitted = permits_on(one, path);
+    for (value, own) in one.values.as_slice().iter().enumerate() {
+        if value < 64 && has(mine, value) && !fits_end(one, other.router, own, path, is_permitted) {
+            return false;
+        }
+    }
+    true
+}
+
+/// Whether each path of the first seat out of a set fits, at the first router, each path of its peer out of another.
+pub(crate) fn is_unmoved(one: &Seat, other: &Seat, mine: u64, theirs: u64) -> bool {
+    for (value, path) in other.values.as_slice().iter().enumerate() {
+        if value < 64 && has(theirs, value) && !is_unmoved_by(one, other, mine, path) {
+            return false;
+        }
+    }
+    true
+}

@@ -11,7 +11,7 @@ use crate::way::Way;
 use ranked_policy::NetItems;
 use std::alloc::Global;
 
-// Adds a pick if its values fit.
+// Adds a pick if its values fit. One that is too many is added too.
 fn add_fitting(
     ways: &[Way],
     pick: NetItems<usize>,
@@ -28,10 +28,12 @@ fn add_fitting(
     if !fits_all(ways, pick.as_slice()) {
         return Ok(());
     }
-    if found.len() >= most {
+    let is_full = found.len() >= most;
+    let pushed = found.push(pick);
+    if is_full {
         return Err(Stop::TooManyChoices);
     }
-    let Ok(()) = found.push(pick) else {
+    let Ok(()) = pushed else {
         return Err(Stop::Memory);
     };
     Ok(())
@@ -68,8 +70,8 @@ fn settle(
     }
 }
 
-/// Adds all picks out of these sets that solve, each once. It stops if the list would have more than `most`, or if all
-/// steps are taken.
+/// Adds all picks out of these sets that solve, each once. It stops if the list has more than `most`, or if all steps are
+/// taken.
 pub(crate) fn search(
     alloc: Global,
     ways: &[Way],

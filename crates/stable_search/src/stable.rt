@@ -14,7 +14,7 @@ use crate::chooser::choosers;
 use crate::distance::distances;
 use crate::every::{Component, Every};
 use crate::fixing::fixed_paths;
-use crate::group::{Group, groups};
+use crate::group::{Group, groups, is_led};
 use crate::laws::stable_is_fitting;
 use crate::limits::SearchLimits;
 use crate::listing::list_open;
@@ -72,9 +72,15 @@ fn all_values(alloc: Global, seats: &[Seat]) -> Result<Vec<u64>, AllocError>
 }
 
 // The part of a group.
-fn part_of(alloc: Global, seats: &[Seat], group: &Group) -> Result<Component, AllocError>
-    requires { (sets : List ℕ) × AreValues seats.now sets × IsGroup sets group.now }
-    ensures { IfOk result (IsPartOf seats.now group.now) }
+fn part_of(
+    alloc: Global,
+    seats: &[Seat],
+    levels: &[usize],
+    group: &Group,
+) -> Result<Component, AllocError>
+    requires size { length levels.now ≡ length seats.now }
+    requires group { (sets : List ℕ) × AreValues seats.now sets × IsGroup sets group.now }
+    ensures { IfOk result (IsPartOf seats.now levels.now group.now) }
 {
     let places = group.places.as_slice();
     let mut choices = Vec::with_capacity(alloc, group.picks.len())?;
@@ -85,6 +91,7 @@ fn part_of(alloc: Global, seats: &[Seat], group: &Group) -> Result<Component, Al
     Ok(Component {
         routers,
         choices: NetItems::from_vec(choices),
+        follows: is_led(group, levels),
     })
 }
 
@@ -92,14 +99,16 @@ fn part_of(alloc: Global, seats: &[Seat], group: &Group) -> Result<Component, Al
 fn parts_of(
     alloc: Global,
     seats: &[Seat],
+    levels: &[usize],
     groups: &[Group],
 ) -> Result<NetItems<Component>, AllocError>
-    requires { (sets : List ℕ) × AreValues seats.now sets × All (IsGroup sets) groups.now }
-    ensures { IfOk result (ArePartsOf seats.now groups.now) }
+    requires size { length levels.now ≡ length seats.now }
+    requires groups { (sets : List ℕ) × AreValues seats.now sets × All (IsGroup sets) groups.now }
+    ensures { IfOk result (ArePartsOf seats.now levels.now groups.now) }
 {
     let mut parts = Vec::with_capacity(alloc, groups.len())?;
     for group in groups {
-        parts.push(part_of(alloc, seats, group)?)?;
+        parts.push(part_of(alloc, seats, levels, group)?)?;
     }
     Ok(NetItems::from_vec(parts))
 }
@@ -120,7 +129,8 @@ fn all_seats<'a>(alloc: Global, instance: &Instance<'a>) -> Result<Vec<Seat<'a>>
     Ok(seats)
 }
 
-/// All stable assignments of an instance: an assignment is stable exactly where it has one of the choices of each part.
+/// All stable assignments of an instance: each has one of the choices of each part, and to any combination of choices of
+/// the parts that don't follow belongs exactly one.
 ///
 /// It answers all of them or refuses. Refused with [`SearchError::TooManyPaths`] and a router that has no rule for the
 /// prefix, if 64 paths or more are found that it may have, the empty one among them; the router is the first so found,
@@ -145,13 +155,14 @@ pub fn stable_assignments(
     let seats = all_seats(alloc, instance)?;
     let ways = ways_between(alloc, network, seats.as_slice())?;
     let mut sets = all_values(alloc, seats.as_slice())?;
-    let groups = groups(
+    let grouping = groups(
         alloc,
         seats.as_slice(),
         ways.as_slice(),
         sets.as_mut_slice(),
         limits,
     )?;
-    let parts = parts_of(alloc, seats.as_slice(), groups.as_slice())?;
+    let levels = grouping.levels.as_slice();
+    let parts = parts_of(alloc, seats.as_slice(), levels, grouping.groups.as_slice())?;
     Ok(Every { parts })
 }

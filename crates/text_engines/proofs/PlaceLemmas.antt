@@ -1,20 +1,21 @@
 -- Where a prefix stands among origins, which rise, and what entries give at its place.
-use Rattle.std.proofs.Common.{◌≡◌, ◌≢◌, ℕ, ◌+◌, ◌<◌, ◌≤◌, Bool, true, false, cond, List, [], length, take, get_or, set, refl, sym, ap, subst, ◌∙◌, arith, inl, inr, ◌⊎◌, get_or-set_other, get_or-set_same}
+use Rattle.std.proofs.Common.{◌≡◌, ◌≢◌, ℕ, ◌+◌, ◌<◌, ◌≤◌, Bool, true, false, cond, List, [], ◌∷◌, ◌++◌, length, take, get_or, set, refl, sym, ap, subst, ◌∙◌, arith, inl, inr, ◌⊎◌, get_or-set_other, get_or-set_same, append_assoc}
 use Rattle.std.specs.Prelude.{◌==◌, ◌&&◌, ◌||◌, nat_lt}
 use Rattle.std.specs.List.{AllPairs}
 use Rattle.std.specs.List.Sorted.{IsPartitionedBy, IsPartitionPoint}
 use Rattle.std.proofs.lemmas.Bool.{cases_order, lt-ltb, eq-eqb, ne_eqb, or_left, or_right, and_from, and_left, and_right, and_parts}
 use Rattle.std.proofs.lemmas.Bool.Decides.{nat_tests}
-use Rattle.std.proofs.lemmas.List.{length-set}
+use Rattle.std.proofs.lemmas.List.{length-set, take_more, append-nil}
 use Rattle.prefix_lanes.specs.Bits.{PrefixView, is_prefix}
 use Rattle.ranked_policy.specs.Plans.{Plan, IsBefore}
 use Rattle.ranked_policy.specs.declared.network.Origin.{Origin}
 use Rattle.stable_paths.specs.declared.assignment.Assigned.{Assigned}
 use Rattle.stable_paths.specs.Stable.{path_of}
-use Rattle.stable_paths.specs.Judging.{IsVerdict}
+use Rattle.stable_paths.specs.Judging.{IsVerdict, AreMovers}
 use Rattle.stable_paths.specs.declared.verdict.Check.{Check}
+use Rattle.stable_paths.specs.declared.verdict.Mover.{Mover}
 use Rattle.net_text.specs.declared.assignment.Entry.{Entry}
-use Rattle.text_engines.specs.Checking.{is_before, IsPlace, HasNoPlace, Assign, paths_of, at_prefix}
+use Rattle.text_engines.specs.Checking.{is_before, IsPlace, HasNoPlace, Assign, paths_of, at_prefix, movers_text, MoversText}
 use Rattle.text_engines.proofs.CheckLemmas.{within, verdict_as, paths_on, paths_pass, paths_give}
 
 -- ---- the order of prefixes
@@ -160,3 +161,34 @@ verdict_here net origins entries all place origin mine check lt is at h v =
     let inside : place < length all = omega (arith, lt, h.as_many) in
     verdict_as net origin.prefix (path_of mine) (paths_of entries origin.prefix) check
     (λ u. ap (λ (p : List Assigned). path_of p u) (at ∙ within all place mine [] inside) ∙ h.each place origin lt u ∙ ap (λ (o : Origin). paths_of entries o.prefix u) (sym is)) v
+
+-- and all that would move by one form of the paths would by another
+pub movers_here : (net : Plan) (origins : List Origin) (entries : List Entry) (all : List (List Assigned)) (place : ℕ) (origin : Origin) (mine : List Assigned) (movers : List Mover) → place < length origins
+    → origin ≡ get_or origins place origin → mine ≡ get_or all place mine → Assign origins entries all
+    → AreMovers (at_prefix net origin.prefix) (path_of mine) net.routers movers → AreMovers (at_prefix net origin.prefix) (paths_of entries origin.prefix) net.routers movers
+movers_here net origins entries all place origin mine movers lt is at h v =
+    let inside : place < length all = omega (arith, lt, h.as_many) in
+    let same : (u : ℕ) → path_of mine u ≡ paths_of entries origin.prefix u =
+    λ u. ap (λ (p : List Assigned). path_of p u) (at ∙ within all place mine [] inside) ∙ h.each place origin lt u ∙ ap (λ (o : Origin). paths_of entries o.prefix u) (sym is) in
+    let e : path_of mine ≡ paths_of entries origin.prefix = λ i u. same u i in
+    subst (λ (paths : ℕ → List ℕ). AreMovers (at_prefix net origin.prefix) paths net.routers movers) e v
+
+-- the text of one prefix more
+text_on : (net : Plan) (entries : List Entry) (os : List Origin) (o : Origin) (movers : List Mover) (text : List ℕ) → MoversText net entries os text
+    → AreMovers (at_prefix net o.prefix) (paths_of entries o.prefix) net.routers movers → MoversText net entries (os ++ o ∷ []) (text ++ movers_text o.prefix movers)
+text_on net entries [] o movers text none are = (movers, [], are, refl, ap (λ (t : List ℕ). t ++ movers_text o.prefix movers) none ∙ sym (append-nil (movers_text o.prefix movers)))
+text_on net entries (x ∷ os) o movers text h are =
+    (h.0, h.1 ++ movers_text o.prefix movers, h.2, text_on net entries os o movers h.1 h.3 are, ap (λ (t : List ℕ). t ++ movers_text o.prefix movers) h.4 ∙ append_assoc (movers_text x.prefix h.0) h.1 (movers_text o.prefix movers))
+
+-- the text of the prefixes before a place
+abbrev pub IsTextTo : Plan → List Entry → List Origin → ℕ → List ℕ → List ℕ → Type 0
+IsTextTo net entries origins place old new = (text : List ℕ) × MoversText net entries (take place origins) text × (new ≡ old ++ text)
+
+pub text_more : (net : Plan) (entries : List Entry) (origins : List Origin) (place : ℕ) (o : Origin) (movers : List Mover) (old mid new : List ℕ) → place < length origins → o ≡ get_or origins place o
+    → IsTextTo net entries origins place old mid → AreMovers (at_prefix net o.prefix) (paths_of entries o.prefix) net.routers movers → new ≡ mid ++ movers_text o.prefix movers → IsTextTo net entries origins (place + 1) old new
+text_more net entries origins place o movers old mid new lt is h are put =
+    let one : take (place + 1) origins ≡ take place origins ++ o ∷ [] = take_more origins place o lt ∙ ap (λ (x : Origin). take place origins ++ x ∷ []) (sym is) in (
+      h.0 ++ movers_text o.prefix movers,
+      subst (λ (os : List Origin). MoversText net entries os (h.0 ++ movers_text o.prefix movers)) (sym one) (text_on net entries (take place origins) o movers h.0 h.1 are),
+      put ∙ ap (λ (t : List ℕ). t ++ movers_text o.prefix movers) h.2 ∙ append_assoc old h.0 (movers_text o.prefix movers),
+    )

@@ -1,18 +1,19 @@
--- The text printed for a network and an assignment.
-use Rattle.std.specs.Prelude.{◌≡◌, ◌≢◌, ℕ, ◌<◌, ◌==◌, ◌&&◌, ◌||◌, nat_lt, Bool, true, false, slice_index_or, List, [], ◌∷◌, ◌++◌, length, codes, Ok, if◌then◌else◌, ◌⊎◌}
-use Rattle.std.specs.List.{All}
+-- The text printed for a network and an assignment; `all` is whether all routers that would move are listed.
+use Rattle.std.specs.Prelude.{◌≡◌, ◌≢◌, ℕ, ◌<◌, ◌==◌, ◌&&◌, ◌||◌, nat_lt, Bool, true, false, slice_index_or, List, [], ◌∷◌, ◌++◌, length, codes, decimal, Ok, if◌then◌else◌, ◌⊎◌}
+use Rattle.std.specs.List.{All, flat_map}
 use Rattle.prefix_lanes.specs.Bits.{PrefixView, is_prefix}
 use Rattle.ranked_policy.specs.Plans.{Plan}
 use Rattle.ranked_policy.specs.declared.network.Origin.{Origin}
 use Rattle.stable_paths.specs.declared.assignment.Assigned.{Assigned}
+use Rattle.stable_paths.specs.declared.verdict.Mover.{Mover}
 use Rattle.stable_paths.specs.Stable.{Problem, path_of, IsStable, MayHave}
-use Rattle.stable_paths.specs.Judging.{IsMoving}
+use Rattle.stable_paths.specs.Judging.{IsMoving, AreMovers}
 use Rattle.net_text.specs.declared.code.Code.{Code}
 use Rattle.net_text.specs.declared.code.Code.TheVariants as kinds
 use Rattle.net_text.specs.declared.assignment.Entry.{Entry}
 use Rattle.net_text.specs.Lexing.{Text}
 use Rattle.net_text.specs.Assignments.{assignment_reading, RefusesAssignment}
-use Rattle.net_text.specs.Printing.{code_text, unstable_line, stable_line}
+use Rattle.net_text.specs.Printing.{line, prefix_text, code_text, unstable_line, stable_line}
 use Rattle.text_engines.specs.declared.status.TheConstants.{DONE}
 use Rattle.text_engines.specs.Decoding.{Output, output, refused}
 use Rattle.text_engines.specs.Inputs.{InputGives, Prints}
@@ -87,22 +88,53 @@ pub data Moves (net : Plan) (entries : List Entry) (out : Output) : Type 0 where
 abbrev pub VerdictGives : Plan → List Entry → Output → Type 0
 VerdictGives net entries out = (All (IsStableAt net entries) net.origins × (out ≡ output stable_line DONE)) ⊎ Moves net entries out
 
+-- a prefix for which no router would move
+unfoldable pub rests_line : PrefixView → List ℕ
+rests_line q = line (codes "prefix" ++ (prefix_text q ++ codes " stable"))
+
+-- one for which so many would
+unfoldable pub moves_line : PrefixView → ℕ → List ℕ
+moves_line q n = line (codes "prefix" ++ (prefix_text q ++ (codes " unstable " ++ decimal n)))
+
+abbrev pub movers_lines : List Mover → List ℕ
+movers_lines movers = flat_map (λ m. unstable_line m.router m.has m.best) movers
+
+-- a prefix, and the routers that would move
+abbrev pub movers_text : PrefixView → List Mover → List ℕ
+movers_text q [] = rests_line q
+movers_text q (m ∷ movers) = moves_line q (length (m ∷ movers)) ++ movers_lines (m ∷ movers)
+
+-- the text of all routers that would move, prefix by prefix
+abbrev pub MoversText : Plan → List Entry → List Origin → List ℕ → Type 0
+MoversText net entries [] text = text ≡ []
+MoversText net entries (o ∷ os) text =
+    (movers : List Mover) × (rest : List ℕ) × AreMovers (at_prefix net o.prefix) (paths_of entries o.prefix) net.routers movers × MoversText net entries os rest
+    × (text ≡ movers_text o.prefix movers ++ rest)
+
+abbrev pub MoversGive : Plan → List Entry → Output → Type 0
+MoversGive net entries out = (text : List ℕ) × MoversText net entries net.origins text × (out ≡ output text DONE)
+
+-- all routers that would move are listed, or the first is named
+abbrev pub JudgedBy : Bool → Plan → List Entry → Output → Type 0
+JudgedBy true = MoversGive
+JudgedBy false = VerdictGives
+
 -- the text for the entries of an assignment
-abbrev pub EntriesGive : Plan → List Entry → Output → Type 0
-EntriesGive net entries out =
+abbrev pub EntriesGive : Bool → Plan → List Entry → Output → Type 0
+EntriesGive all net entries out =
     ((at : ℕ) × IsFirstStray net entries at × (out ≡ refused at (code_text kinds.NotPermitted)))
-    ⊎ (All (MayStand net) entries × VerdictGives net entries out)
+    ⊎ (All (MayStand net) entries × JudgedBy all net entries out)
 
 -- the text for the lines of an assignment, so many lines standing before them
-abbrev pub AssignmentGives : Plan → ℕ → List Text → Output → Type 0
-AssignmentGives net before lines out =
+abbrev pub AssignmentGives : Bool → Plan → ℕ → List Text → Output → Type 0
+AssignmentGives all net before lines out =
     ((at : ℕ) × (code : Code) × (code ≢ kinds.Memory) × RefusesAssignment net before lines at code × (out ≡ refused at (code_text code)))
-    ⊎ ((entries : List Entry) × (assignment_reading net before lines ≡ Ok entries) × EntriesGive net entries out)
+    ⊎ ((entries : List Entry) × (assignment_reading net before lines ≡ Ok entries) × EntriesGive all net entries out)
 
 -- the text for an input of a network and an assignment
-abbrev pub CheckGives : List ℕ → Output → Type 0
-CheckGives input out = InputGives AssignmentGives (codes "assignment") input out
+abbrev pub CheckGives : Bool → List ℕ → Output → Type 0
+CheckGives all input out = InputGives (AssignmentGives all) (codes "assignment") input out
 
 -- the text that the program prints: this one, or that memory ran out
-abbrev pub Checks : List ℕ → Output → Type 0
-Checks input out = Prints AssignmentGives (codes "assignment") input out
+abbrev pub Checks : Bool → List ℕ → Output → Type 0
+Checks all input out = Prints (AssignmentGives all) (codes "assignment") input out

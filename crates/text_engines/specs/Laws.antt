@@ -1,5 +1,5 @@
 -- Laws of the definitions of the engines.
-use Rattle.std.specs.Prelude.{◌≡◌, ℕ, ◌<◌, ◌^◌, List, codes}
+use Rattle.std.specs.Prelude.{◌≡◌, ℕ, ◌<◌, ◌^◌, Bool, List, codes}
 use Rattle.bgp_codec.specs.declared.rule.Rule.{Rule}
 use Rattle.ranked_policy.specs.Plans.{Plan, IsNetwork}
 use Rattle.net_text.specs.Lexing.{Text}
@@ -22,4 +22,4 @@ abbrev pub InputsGiveOne : (Plan → ℕ → List Text → Output → Type 0) �
 InputsGiveOne Gives name = (input : List ℕ) (one other : Output) → InputGives Gives name input one → InputGives Gives name input other → one ≡ other
 
 abbrev pub ChecksToOne : Type 0
-ChecksToOne = InputsGiveOne AssignmentGives (codes "assignment")
+ChecksToOne = (all : Bool) → InputsGiveOne (AssignmentGives all) (codes "assignment")

@@ -8,8 +8,9 @@ ghost use Rattle.stable_paths.specs.Judging.{IsVerdict};
 ghost use Rattle.net_text.specs.Printing.{stable_line, unstable_line};
 ghost use Rattle.text_engines.specs.Decoding.{output};
 ghost use Rattle.text_engines.specs.declared.status.TheConstants.{DONE};
-ghost use Rattle.text_engines.specs.Checking.{is_before, IsPlace, HasNoPlace, AssignNothing, Assign, at_prefix, MayStand, IsFirstStray, VerdictGives, EntriesGive};
+ghost use Rattle.text_engines.specs.Checking.{is_before, IsPlace, HasNoPlace, AssignNothing, Assign, at_prefix, MayStand, IsFirstStray, JudgedBy, VerdictGives, EntriesGive};
 
+use crate::movers::movers_output;
 use crate::refusals::refused_output;
 use crate::status::DONE;
 use net_text::{Code, Entry, stable_line, unstable_line};
@@ -95,8 +96,8 @@ fn nothing_assigned(alloc: Global, count: usize) -> Result<Vec<Assignment>, Allo
     Ok(all)
 }
 
-// The paths that entries give routers, for the prefix of each origin.
-fn assigned(
+/// The paths that entries give routers, for the prefix of each origin.
+pub(crate) fn assigned(
     alloc: Global,
     origins: &[Origin],
     entries: &[Entry],
@@ -151,16 +152,34 @@ fn verdict_output(
     stable_output(alloc)
 }
 
-/// The text printed for the entries of an assignment, and the exit status.
-pub fn entries_output(
+// The text printed for entries that are all permitted, and the exit status: all routers that would move, or the first.
+fn judged_output(
     alloc: Global,
+    lists_all: bool,
     network: &Network,
     entries: &[Entry],
 ) -> Result<(Vec<u8>, u8), AllocError>
-    ensures { IfOk result (λ printed. EntriesGive network.now entries.now (output printed.0.items printed.1)) }
+    ensures { IfOk result (λ printed. JudgedBy lists_all network.now entries.now (output printed.0.items printed.1)) }
+{
+    if lists_all {
+        movers_output(alloc, network, entries)
+    } else {
+        verdict_output(alloc, network, entries)
+    }
+}
+
+/// The text printed for the entries of an assignment, and the exit status.
+pub fn entries_output(
+    alloc: Global,
+    lists_all: bool,
+    network: &Network,
+    entries: &[Entry],
+) -> Result<(Vec<u8>, u8), AllocError>
+    ensures { IfOk result
+        (λ printed. EntriesGive lists_all network.now entries.now (output printed.0.items printed.1)) }
 {
     match first_stray(network, entries) {
         Some(line) => refused_output(alloc, line, Code::NotPermitted.text()),
-        None => verdict_output(alloc, network, entries),
+        None => judged_output(alloc, lists_all, network, entries),
     }
 }

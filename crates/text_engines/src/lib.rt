@@ -21,6 +21,7 @@ mod digits;
 mod engine;
 mod hex_input;
 pub mod laws;
+mod movers;
 mod refusals;
 pub mod status;
 mod stream;

@@ -12,13 +12,14 @@ noted_by true line one = one
 noted_by false line one =
     ((λ e. absurd (omega (arith, e))), ((λ e. absurd (omega (arith, e))), ((λ e. absurd (omega (arith, e))), ((λ e. absurd (omega (arith, e))), ((λ e. absurd (omega (arith, e))), one)))))
 
-all_noted : (lines : List Text) → AllByRecursion IsOneLine lines → AllByRecursion IsOneLine (map noted lines)
-all_noted [] all = tt
-all_noted (line ∷ lines) all = (noted_by (begin_note (words_of line)) line all.0, all_noted lines all.1)
+module _ (shows : Bool) where
+  all_noted : (lines : List Text) → AllByRecursion IsOneLine lines → AllByRecursion IsOneLine (map (noted shows) lines)
+  all_noted [] all = tt
+  all_noted (line ∷ lines) all = (noted_by (begin_note shows (words_of line)) line all.0, all_noted lines all.1)
 
-text_is : (lines : List Text) → notes_text lines ≡ comments_text (map noted lines)
-text_is [] = refl
-text_is (line ∷ lines) = ap (λ (t : List ℕ). comment_line (noted line) ++ t) (text_is lines)
+  text_is : (lines : List Text) → notes_text shows lines ≡ comments_text (map (noted shows) lines)
+  text_is [] = refl
+  text_is (line ∷ lines) = ap (λ (t : List ℕ). comment_line (noted shows line) ++ t) (text_is lines)
 
-pub are_comments : (text : List ℕ) → AreNotes text → AreComments text
-are_comments text notes = record { lines = map noted notes.lines; are_lines = all_noted notes.lines notes.are_lines; are = notes.are ∙ text_is notes.lines }
+  pub are_comments : (text : List ℕ) → AreNotes shows text → AreComments text
+  are_comments text notes = record { lines = map (noted shows) notes.lines; are_lines = all_noted notes.lines notes.are_lines; are = notes.are ∙ text_is notes.lines }

@@ -30,7 +30,7 @@ use Rattle.schedule_text.specs.Obeying.{all_events, LeadTo}
 use Rattle.schedule_text.specs.Events.{event_line}
 use Rattle.world_core.specs.Watching.{StepText, EventsText, BehindRound, RoundsText, WorkText, round_text, reached, rest_of}
 use Rattle.world_core.proofs.WatchedRounds.{reached_is}
-use Rattle.trace_engine.specs.Tracing.{EventLines, round_line, place_text, head_line, head_text, idle_line, counted_line, ticked_line, tail_text, count_of, OrderText, OrdersText}
+use Rattle.trace_engine.specs.Tracing.{SaysEvent, round_line, place_text, head_line, head_text, idle_line, counted_line, ticked_line, tail_text, count_of, OrderText, OrdersText}
 use Rattle.schedule_text.proofs.LineLemmas.{shown_both, decimal_shown, are_shown, IsNamed, named_from, number_from, Says, says_none, says_both, says_nothing, says_comments}
 use Rattle.trace_engine.proofs.NoteLemmas.{are_comments}
 use Rattle.schedule_text.proofs.EventLemmas.{IsOriginated, MaySay, event_said}
@@ -153,33 +153,33 @@ module _ (g : Setting) (network : IsNetwork g.net) where
       pub run : y.run ≡ w.run ++ done
       pub says : Says g.net text done
 
-    done_by : (a : WorldAnswer) (w y : World) (x : Event) (xs : List Event) (at : ℕ) (text : List ℕ) → world_answer g w x ≡ a → Speaks x
-        → ((next : World) (t : List ℕ) → played g next (at + 1) xs ≡ Ok y → EventsText EventLines g next xs t → SaysDone next y t)
-        → onward (world_of g w x at a) (λ next. played g next (at + 1) xs) ≡ Ok y → StepText EventLines g w x a (λ next t. EventsText EventLines g next xs t) text → SaysDone w y text
-    done_by (Does u e stamp) w y x xs at text is speaks go h s =
+    done_by : (shows : Bool) (a : WorldAnswer) (w y : World) (x : Event) (xs : List Event) (at : ℕ) (text : List ℕ) → world_answer g w x ≡ a → Speaks x
+        → ((next : World) (t : List ℕ) → played g next (at + 1) xs ≡ Ok y → EventsText (SaysEvent shows) g next xs t → SaysDone next y t)
+        → onward (world_of g w x at a) (λ next. played g next (at + 1) xs) ≡ Ok y → StepText (SaysEvent shows) g w x a (λ next t. EventsText (SaysEvent shows) g next xs t) text → SaysDone w y text
+    done_by shows (Does u e stamp) w y x xs at text is speaks go h s =
         let k = go (world_after g w x u e stamp) s.1 h s.3 in
-        let line = says_both g.net (event_line x) s.2.0 (x ∷ []) [] (event_said feeds read g.net x (speaks w u e stamp is)) (says_comments feeds g.net s.2.0 (are_comments s.2.0 s.2.1)) in
+        let line = says_both g.net (event_line x) s.2.0 (x ∷ []) [] (event_said feeds read g.net x (speaks w u e stamp is)) (says_comments feeds g.net s.2.0 (are_comments shows s.2.0 s.2.1)) in
         let whole = says_both g.net s.0 s.1 (x ∷ []) k.done (subst (λ (t : List ℕ). Says g.net t (x ∷ [])) (sym s.2.2) line) k.says in
         record { done = x ∷ k.done; run = k.run ∙ append_assoc w.run (x ∷ []) k.done; says = subst (λ (t : List ℕ). Says g.net t (x ∷ k.done)) (sym s.4) whole }
-    done_by Nothing w y x xs at text is speaks go h s = go w text h s
-    done_by (Stops fault) w y x xs at text is speaks go h s = absurd cc
+    done_by shows Nothing w y x xs at text is speaks go h s = go w text h s
+    done_by shows (Stops fault) w y x xs at text is speaks go h s = absurd cc
 
     nothing_done : (w y : World) (text : List ℕ) → w ≡ y → text ≡ [] → SaysDone w y text
     nothing_done w y text same none =
         record { done = []; run = ap (λ (v : World). v.run) (sym same) ∙ sym (append-nil w.run); says = subst (λ (t : List ℕ). Says g.net t []) (sym none) (says_none g.net) }
 
-    pub events_say : (xs : List Event) (w y : World) (at : ℕ) (text : List ℕ) → AllByRecursion Speaks xs → played g w at xs ≡ Ok y → EventsText EventLines g w xs text → SaysDone w y text
-    events_say [] w y at text all h s = (let same : w ≡ y = cc in nothing_done w y text same s)
-    events_say (x ∷ xs) w y at text all h s = done_by (world_answer g w x) w y x xs at text refl all.0 (λ next t k l. events_say xs next y (at + 1) t all.1 k l) h s
+    pub events_say : (shows : Bool) (xs : List Event) (w y : World) (at : ℕ) (text : List ℕ) → AllByRecursion Speaks xs → played g w at xs ≡ Ok y → EventsText (SaysEvent shows) g w xs text → SaysDone w y text
+    events_say shows [] w y at text all h s = (let same : w ≡ y = cc in nothing_done w y text same s)
+    events_say shows (x ∷ xs) w y at text all h s = done_by shows (world_answer g w x) w y x xs at text refl all.0 (λ next t k l. events_say shows xs next y (at + 1) t all.1 k l) h s
 
     -- so many rounds
-    rounds_say : (n : ℕ) (w y : World) (passed : ℕ) (text : List ℕ) → played g w 0 (repeated n (round g.net)) ≡ Ok y → RoundsText EventLines round_line g w passed n text → SaysDone w y text
-    rounds_say zero w y passed text h s = (let same : w ≡ y = cc in nothing_done w y text same s)
-    rounds_say (suc n) w y passed text h s =
+    rounds_say : (shows : Bool) (n : ℕ) (w y : World) (passed : ℕ) (text : List ℕ) → played g w 0 (repeated n (round g.net)) ≡ Ok y → RoundsText (SaysEvent shows) round_line g w passed n text → SaysDone w y text
+    rounds_say shows zero w y passed text h s = (let same : w ≡ y = cc in nothing_done w y text same s)
+    rounds_say shows (suc n) w y passed text h s =
         let k = played_parts g (round g.net) (repeated n (round g.net)) w y 0 h in
-        let behind = subst (λ (p : Played). BehindRound round_line w (passed + 1) p (λ next rest. RoundsText EventLines round_line g next (passed + 1) n rest) s.1) k.1 s.3 in
-        let one = events_say (round g.net) w k.0 0 s.0 (all_flat Speaks (turn g.net) (numbers g.net.routers) turn_speaks) k.1 s.2 in
-        let more = rounds_say n k.0 y (passed + 1) behind.0 k.2 behind.1 in
+        let behind = subst (λ (p : Played). BehindRound round_line w (passed + 1) p (λ next rest. RoundsText (SaysEvent shows) round_line g next (passed + 1) n rest) s.1) k.1 s.3 in
+        let one = events_say shows (round g.net) w k.0 0 s.0 (all_flat Speaks (turn g.net) (numbers g.net.routers) turn_speaks) k.1 s.2 in
+        let more = rounds_say shows n k.0 y (passed + 1) behind.0 k.2 behind.1 in
         let spent = length k.0.run - length w.run in
         let line = round_text round_line (passed + 1) spent in
         let said = says_both g.net line behind.0 [] more.done (round_says feeds g.net (passed + 1) spent (spent == 0)) more.says in
@@ -191,10 +191,10 @@ module _ (g : Setting) (network : IsNetwork g.net) where
               (says_both g.net s.0 (line ++ behind.0) one.done more.done one.says said);
         }
 
-    work_says : (o : Order) (w y : World) (text : List ℕ) → MayOrder o → played g w 0 (events_of g.net o) ≡ Ok y → WorkText EventLines round_line g w o text → SaysDone w y text
-    work_says (order.One e) w y text may h s = events_say (e ∷ []) w y 0 text (order_speaks (order.One e) may) h s
-    work_says (order.Rounds n) w y text may h s = rounds_say n w y 0 text h s
-    work_says (order.Ticks n) w y text may h s = events_say (repeated n (second g.net)) w y 0 text (order_speaks (order.Ticks n) may) h s
+    work_says : (shows : Bool) (o : Order) (w y : World) (text : List ℕ) → MayOrder o → played g w 0 (events_of g.net o) ≡ Ok y → WorkText (SaysEvent shows) round_line g w o text → SaysDone w y text
+    work_says shows (order.One e) w y text may h s = events_say shows (e ∷ []) w y 0 text (order_speaks (order.One e) may) h s
+    work_says shows (order.Rounds n) w y text may h s = rounds_say shows n w y 0 text h s
+    work_says shows (order.Ticks n) w y text may h s = events_say shows (repeated n (second g.net)) w y 0 text (order_speaks (order.Ticks n) may) h s
 
     -- a text of comments, then events, then comments
     around : (front text end : List ℕ) (w y : World) → Says g.net front [] → SaysDone w y text → Says g.net end [] → SaysDone w y ((front ++ text) ++ end)
@@ -203,21 +203,21 @@ module _ (g : Setting) (network : IsNetwork g.net) where
         let whole = says_both g.net (front ++ text) end k.done [] first l in
         record { done = k.done; run = k.run; says = subst (λ (es : List Event). Says g.net ((front ++ text) ++ end) es) (append-nil k.done) whole }
 
-    order_says : (o : ScheduledOrder) (w y : World) (text : List ℕ) → MayOrder o.order → played g w 0 (events_of g.net o.order) ≡ Ok y → OrderText g w o text → SaysDone w y text
-    order_says o w y text may h s =
+    order_says : (shows : Bool) (o : ScheduledOrder) (w y : World) (text : List ℕ) → MayOrder o.order → played g w 0 (events_of g.net o.order) ≡ Ok y → OrderText shows g w o text → SaysDone w y text
+    order_says shows o w y text may h s =
         let begun = s.1 in
         let end = tail_text o.line o.order (count_of g w (events_of g.net o.order)) (rest_of g w o.order) in
         subst (SaysDone w y) (sym (s.2 ∙ ap (λ (t : List ℕ). t ++ end) begun.2))
-        (around (head_text o.line o.order) begun.0 end w y (heads_say feeds g.net o.line o.order) (work_says o.order w y begun.0 may h begun.1)
+        (around (head_text o.line o.order) begun.0 end w y (heads_say feeds g.net o.line o.order) (work_says shows o.order w y begun.0 may h begun.1)
         (tails_say feeds g.net o.line o.order (count_of g w (events_of g.net o.order)) (rest_of g w o.order)))
 
-    pub orders_say : (os : List ScheduledOrder) (w y : World) (text : List ℕ) → AllByRecursion (λ o. MayOrder o.order) os → LeadTo g w os y → OrdersText g w os text → SaysDone w y text
-    orders_say [] w y text all h s = (let same : w ≡ y = cc in nothing_done w y text same s)
-    orders_say (o ∷ os) w y text all h s =
+    pub orders_say : (shows : Bool) (os : List ScheduledOrder) (w y : World) (text : List ℕ) → AllByRecursion (λ o. MayOrder o.order) os → LeadTo g w os y → OrdersText shows g w os text → SaysDone w y text
+    orders_say shows [] w y text all h s = (let same : w ≡ y = cc in nothing_done w y text same s)
+    orders_say shows (o ∷ os) w y text all h s =
         let k = played_parts g (events_of g.net o.order) (all_events g.net os) w y 0 h in
         let is : reached g w (events_of g.net o.order) ≡ k.0 = reached_is g w k.0 (events_of g.net o.order) k.1 in
-        let one = order_says o w k.0 s.0 all.0 k.1 s.2 in
-        let more = orders_say os k.0 y s.1 all.1 k.2 (subst (λ (v : World). OrdersText g v os s.1) is s.3) in
+        let one = order_says shows o w k.0 s.0 all.0 k.1 s.2 in
+        let more = orders_say shows os k.0 y s.1 all.1 k.2 (subst (λ (v : World). OrdersText shows g v os s.1) is s.3) in
         record {
           done = one.done ++ more.done;
           run = more.run ∙ ap (λ (l : List Event). l ++ more.done) one.run ∙ append_assoc w.run one.done more.done;

@@ -1,5 +1,5 @@
 -- Laws of traces.
-use Rattle.std.specs.Prelude.{◌≡◌, ℕ, ◌≤◌, List, length, map}
+use Rattle.std.specs.Prelude.{◌≡◌, ℕ, ◌≤◌, Bool, List, length, map}
 use Rattle.ranked_policy.specs.Plans.{Plan, IsNetwork}
 use Rattle.router_model.specs.Settings.{Setting}
 use Rattle.world_core.specs.declared.schedule.Event.{Event}
@@ -26,8 +26,8 @@ pub record SpellsEvents (net : Plan) (before : ℕ) (lines : List Text) (events 
 abbrev pub TracesSpellTheirRuns : Type 0
 TracesSpellTheirRuns =
     (g : Setting) → IsNetwork g.net → (before : ℕ) (lines : List Text) (orders : List ScheduledOrder) → SpellsSchedule g.net before lines orders
-    → (w : World) → LeadTo g (new_world g) orders w → (text : List ℕ) → OrdersText g (new_world g) orders text → (at : ℕ) → SpellsEvents g.net at (lines_of text) w.run
+    → (w : World) → LeadTo g (new_world g) orders w → (shows : Bool) (text : List ℕ) → OrdersText shows g (new_world g) orders text → (at : ℕ) → SpellsEvents g.net at (lines_of text) w.run
 
 -- `play` prints for a trace what it prints for the input
 abbrev pub TracesPlayBack : Type 0
-TracesPlayBack = (input text : List ℕ) → Traces input (output text DONE) → length text ≤ INPUT_LIMIT → (out : Output) → Plays text out → Plays input out
+TracesPlayBack = (shows : Bool) (input text : List ℕ) → Traces shows input (output text DONE) → length text ≤ INPUT_LIMIT → (out : Output) → Plays text out → Plays input out

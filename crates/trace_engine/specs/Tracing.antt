@@ -1,5 +1,6 @@
--- The text of a trace: the run of a schedule as orders, with comments on orders that stood for many events.
-use Rattle.std.specs.Prelude.{◌≡◌, ◌≢◌, ℕ, ◌+◌, ◌-◌, ◌==◌, List, [], ◌∷◌, ◌++◌, length, Option, None, Some, Result, Ok, MatchResult, codes, decimal, if◌then◌else◌, ◌⊎◌}
+-- The text of a trace: the run of a schedule as orders, with comments on orders that stood for many events. `shows` is
+-- whether the octets that are sent are shown.
+use Rattle.std.specs.Prelude.{◌≡◌, ◌≢◌, ℕ, ◌+◌, ◌-◌, ◌==◌, Bool, List, [], ◌∷◌, ◌++◌, length, Option, None, Some, Result, Ok, MatchResult, codes, decimal, if◌then◌else◌, ◌⊎◌}
 use Rattle.ranked_policy.specs.Plans.{Plan}
 use Rattle.router_model.specs.Settings.{Setting, ChoosesByRank}
 use Rattle.world_core.specs.declared.schedule.Event.{Event}
@@ -9,7 +10,7 @@ use Rattle.world_core.specs.declared.schedule.StepFault.{StepFault}
 use Rattle.world_core.specs.declared.schedule.StepFault.TheVariants.{Memory}
 use Rattle.world_core.specs.World.{World, new_world, played}
 use Rattle.world_core.specs.Orders.{events_of, StopsAt}
-use Rattle.world_core.specs.Watching.{Adds, WorkText, reached, rest_of}
+use Rattle.world_core.specs.Watching.{Adds, Sayings, WorkText, reached, rest_of}
 use Rattle.world_core.specs.Views.{WorldView, plain_world}
 use Rattle.net_text.specs.Printing.{line}
 use Rattle.schedule_text.specs.declared.schedule.ScheduledOrder.{ScheduledOrder}
@@ -25,8 +26,12 @@ use Rattle.trace_engine.specs.Noting.{AreNotes}
 -- ---- events and rounds
 
 -- the line of an event that was done, with comments behind it
-abbrev pub EventLines : Event → List ℕ → Type 0
-EventLines event text = (comments : List ℕ) × AreNotes comments × (text ≡ event_line event ++ comments)
+abbrev pub EventLines : Bool → Event → List ℕ → Type 0
+EventLines shows event text = (comments : List ℕ) × AreNotes shows comments × (text ≡ event_line event ++ comments)
+
+-- the same, whichever worlds the event leads from and to
+abbrev pub SaysEvent : Bool → Sayings
+SaysEvent shows before event behind = EventLines shows event
 
 -- the line that says how many events a round had
 unfoldable pub round_line : ℕ → ℕ → List ℕ
@@ -77,30 +82,30 @@ abbrev pub count_of : Setting → World → List Event → ℕ
 count_of g w events = length (reached g w events).run - length w.run
 
 -- the text of an order up to the event that is refused
-abbrev pub BegunText : Setting → World → ScheduledOrder → List ℕ → Type 0
-BegunText g w o text = (work : List ℕ) × WorkText EventLines round_line g w o.order work × (text ≡ head_text o.line o.order ++ work)
+abbrev pub BegunText : Bool → Setting → World → ScheduledOrder → List ℕ → Type 0
+BegunText shows g w o text = (work : List ℕ) × WorkText (SaysEvent shows) round_line g w o.order work × (text ≡ head_text o.line o.order ++ work)
 
-abbrev pub OrderText : Setting → World → ScheduledOrder → List ℕ → Type 0
-OrderText g w o text =
-    (begun : List ℕ) × BegunText g w o begun × (text ≡ begun ++ tail_text o.line o.order (count_of g w (events_of g.net o.order)) (rest_of g w o.order))
+abbrev pub OrderText : Bool → Setting → World → ScheduledOrder → List ℕ → Type 0
+OrderText shows g w o text =
+    (begun : List ℕ) × BegunText shows g w o begun × (text ≡ begun ++ tail_text o.line o.order (count_of g w (events_of g.net o.order)) (rest_of g w o.order))
 
 -- the text of orders of which none is refused
-abbrev pub OrdersText : Setting → World → List ScheduledOrder → List ℕ → Type 0
-OrdersText g w [] text = text ≡ []
-OrdersText g w (o ∷ orders) text =
-    (first : List ℕ) × (rest : List ℕ) × OrderText g w o first × OrdersText g (reached g w (events_of g.net o.order)) orders rest × (text ≡ first ++ rest)
+abbrev pub OrdersText : Bool → Setting → World → List ScheduledOrder → List ℕ → Type 0
+OrdersText shows g w [] text = text ≡ []
+OrdersText shows g w (o ∷ orders) text =
+    (first : List ℕ) × (rest : List ℕ) × OrderText shows g w o first × OrdersText shows g (reached g w (events_of g.net o.order)) orders rest × (text ≡ first ++ rest)
 
 -- the text of orders up to the first that is refused
-abbrev pub StoppedText : (g : Setting) (w : World) (orders : List ScheduledOrder) (stop : RefusedOrder) → IsFirstRefused g w orders stop → List ℕ → Type 0
-StoppedText g w orders stop s text = (done : List ℕ) × (begun : List ℕ) × OrdersText g w s.before done × BegunText g s.reached s.order begun × (text ≡ done ++ begun)
+abbrev pub StoppedText : (shows : Bool) (g : Setting) (w : World) (orders : List ScheduledOrder) (stop : RefusedOrder) → IsFirstRefused g w orders stop → List ℕ → Type 0
+StoppedText shows g w orders stop s text = (done : List ℕ) × (begun : List ℕ) × OrdersText shows g w s.before done × BegunText shows g s.reached s.order begun × (text ≡ done ++ begun)
 
 -- ---- the text printed for orders, behind what stands before them
 
-abbrev pub OrdersTrace : Plan → List ℕ → List ScheduledOrder → Output → Type 0
-OrdersTrace net head orders out =
+abbrev pub OrdersTrace : Bool → Plan → List ℕ → List ScheduledOrder → Output → Type 0
+OrdersTrace shows net head orders out =
     (g : Setting) → g.net ≡ net → ChoosesByRank g
-    → ((w : World) × (text : List ℕ) × LeadTo g (new_world g) orders w × OrdersText g (new_world g) orders text × (out ≡ output (limited (head ++ text)) DONE))
-    ⊎ ((stop : RefusedOrder) × (text : List ℕ) × (stop.why ≢ Memory) × (s : IsFirstRefused g (new_world g) orders stop) × StoppedText g (new_world g) orders stop s text × (out ≡ output (limited (head ++ (text ++ stop_comment stop.line stop.why))) REFUSED))
+    → ((w : World) × (text : List ℕ) × LeadTo g (new_world g) orders w × OrdersText shows g (new_world g) orders text × (out ≡ output (limited (head ++ text)) DONE))
+    ⊎ ((stop : RefusedOrder) × (text : List ℕ) × (stop.why ≢ Memory) × (s : IsFirstRefused g (new_world g) orders stop) × StoppedText shows g (new_world g) orders stop s text × (out ≡ output (limited (head ++ (text ++ stop_comment stop.line stop.why))) REFUSED))
 
 -- ---- what calls have to give and to leave, in every setting of the network that chooses by rank; nothing is said of
 -- want of memory
@@ -110,17 +115,17 @@ abbrev pub HaltsIn : Setting → World → List Event → StepFault → World �
 HaltsIn g w events why y old new Is = (at : ℕ) × StopsAt g w events at why y × Adds old new Is
 
 -- a call that obeys an order
-abbrev pub TracesOrder : Result (Unit {0}) StepFault → WorldView → ScheduledOrder → List ℕ → WorldView → List ℕ → Type 0
-TracesOrder r x o old y new =
+abbrev pub TracesOrder : Bool → Result (Unit {0}) StepFault → WorldView → ScheduledOrder → List ℕ → WorldView → List ℕ → Type 0
+TracesOrder shows r x o old y new =
     (g : Setting) → g.net ≡ x.net → ChoosesByRank g
     → MatchResult r
-    (λ _. (played g (plain_world x) 0 (events_of g.net o.order) ≡ Ok (plain_world y)) × Adds old new (OrderText g (plain_world x) o))
-    (λ why. why ≢ Memory → HaltsIn g (plain_world x) (events_of g.net o.order) why (plain_world y) old new (BegunText g (plain_world x) o))
+    (λ _. (played g (plain_world x) 0 (events_of g.net o.order) ≡ Ok (plain_world y)) × Adds old new (OrderText shows g (plain_world x) o))
+    (λ why. why ≢ Memory → HaltsIn g (plain_world x) (events_of g.net o.order) why (plain_world y) old new (BegunText shows g (plain_world x) o))
 
 -- a call that obeys orders
-abbrev pub TracesAll : Result (Unit {0}) RefusedOrder → WorldView → List ScheduledOrder → List ℕ → WorldView → List ℕ → Type 0
-TracesAll r x orders old y new =
+abbrev pub TracesAll : Bool → Result (Unit {0}) RefusedOrder → WorldView → List ScheduledOrder → List ℕ → WorldView → List ℕ → Type 0
+TracesAll shows r x orders old y new =
     (g : Setting) → g.net ≡ x.net → ChoosesByRank g
     → MatchResult r
-    (λ _. LeadTo g (plain_world x) orders (plain_world y) × Adds old new (OrdersText g (plain_world x) orders))
-    (λ stop. stop.why ≢ Memory → (s : IsFirstRefused g (plain_world x) orders stop) × Adds old new (StoppedText g (plain_world x) orders stop s))
+    (λ _. LeadTo g (plain_world x) orders (plain_world y) × Adds old new (OrdersText shows g (plain_world x) orders))
+    (λ stop. stop.why ≢ Memory → (s : IsFirstRefused g (plain_world x) orders stop) × Adds old new (StoppedText shows g (plain_world x) orders stop s))

@@ -1,5 +1,5 @@
--- The text printed for a network and a schedule.
-use Rattle.std.specs.Prelude.{◌≡◌, ◌≢◌, ℕ, List, codes, ◌⊎◌}
+-- The text printed for a network and a schedule; `shows` is whether the octets that are sent are shown.
+use Rattle.std.specs.Prelude.{◌≡◌, ◌≢◌, ℕ, Bool, List, codes, ◌⊎◌}
 use Rattle.ranked_policy.specs.Plans.{Plan}
 use Rattle.net_text.specs.declared.code.Code.{Code}
 use Rattle.net_text.specs.declared.code.Code.TheVariants as kinds
@@ -13,23 +13,23 @@ use Rattle.text_engines.specs.Inputs.{NetworkGives, InputGives, Prints}
 use Rattle.trace_engine.specs.Tracing.{OrdersTrace}
 
 -- the text for the lines of a schedule behind a network of these lines, so many lines standing before them
-abbrev pub ScheduleTraces : List Text → Plan → ℕ → List Text → Output → Type 0
-ScheduleTraces front net before lines out =
+abbrev pub ScheduleTraces : Bool → List Text → Plan → ℕ → List Text → Output → Type 0
+ScheduleTraces shows front net before lines out =
     ((at : ℕ) × (code : Code) × (code ≢ kinds.Memory) × RefusesSchedule net before lines at code × (out ≡ refused at (code_text code)))
-    ⊎ ((orders : List ScheduledOrder) × SpellsSchedule net before lines orders × OrdersTrace net (head_of_schedule front) orders out)
+    ⊎ ((orders : List ScheduledOrder) × SpellsSchedule net before lines orders × OrdersTrace shows net (head_of_schedule front) orders out)
 
 -- the text for the lines of a network, and those behind it
-abbrev pub LinesTrace : List Text → ℕ → List Text → Output → Type 0
-LinesTrace front before behind out = NetworkGives (ScheduleTraces front) front before behind out
+abbrev pub LinesTrace : Bool → List Text → ℕ → List Text → Output → Type 0
+LinesTrace shows front before behind out = NetworkGives (ScheduleTraces shows front) front before behind out
 
 -- the lines of the network that an input begins with
 abbrev pub network_lines : List ℕ → List Text
 network_lines input = before_section (codes "schedule") (lines_of input)
 
 -- the text for an input, which may be too long
-abbrev pub InputTraces : List ℕ → Output → Type 0
-InputTraces input out = InputGives (ScheduleTraces (network_lines input)) (codes "schedule") input out
+abbrev pub InputTraces : Bool → List ℕ → Output → Type 0
+InputTraces shows input out = InputGives (ScheduleTraces shows (network_lines input)) (codes "schedule") input out
 
 -- the text that `trace` prints for an input of a network and a schedule: this one, or that memory ran out
-abbrev pub Traces : List ℕ → Output → Type 0
-Traces input out = Prints (ScheduleTraces (network_lines input)) (codes "schedule") input out
+abbrev pub Traces : Bool → List ℕ → Output → Type 0
+Traces shows input out = Prints (ScheduleTraces shows (network_lines input)) (codes "schedule") input out

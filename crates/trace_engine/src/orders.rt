@@ -21,12 +21,12 @@ use text_engines::status::{DONE, REFUSED};
 use world_core::{StepFault, World};
 
 // Obeys an order, and appends its lines.
-fn trace_order(
+fn trace_order<const OCTETS: bool>(
     world: &mut World<'_>,
     scheduled: &ScheduledOrder,
-    tracer: &mut Tracer,
+    tracer: &mut Tracer<OCTETS>,
 ) -> Result<(), StepFault>
-    ensures traces { TracesOrder result world.old scheduled.now tracer.old.out.items world.new tracer.new.out.items }
+    ensures traces { TracesOrder OCTETS result world.old scheduled.now tracer.old.out.items world.new tracer.new.out.items }
     ensures same { world.new.net ≡ world.old.net }
 {
     put_head(scheduled, &mut tracer.out)?;
@@ -38,12 +38,12 @@ fn trace_order(
 }
 
 // Obeys the orders up to the first that is refused, and appends their lines.
-fn trace_all(
+fn trace_all<const OCTETS: bool>(
     world: &mut World<'_>,
     orders: &[ScheduledOrder],
-    tracer: &mut Tracer,
+    tracer: &mut Tracer<OCTETS>,
 ) -> Result<(), RefusedOrder>
-    ensures traces { TracesAll result world.old orders.now tracer.old.out.items world.new tracer.new.out.items }
+    ensures traces { TracesAll OCTETS result world.old orders.now tracer.old.out.items world.new tracer.new.out.items }
     ensures same { world.new.net ≡ world.old.net }
 {
     for scheduled in orders {
@@ -81,19 +81,18 @@ fn stop_output(stop: RefusedOrder, mut out: Vec<u8>) -> Result<(Vec<u8>, u8), Al
 }
 
 // The text printed for orders in a world in which nothing was done, behind the text so far, and the exit status.
-fn world_output(
+fn world_output<const OCTETS: bool>(
     alloc: Global,
     network: &Network,
     mut world: World<'_>,
     orders: &[ScheduledOrder],
-    shows_octets: bool,
     out: Vec<u8>,
 ) -> Result<(Vec<u8>, u8), AllocError>
     requires { Opens network.now world }
-    ensures { IfOk result (λ printed. OrdersTrace network.now out.items orders.now (output printed.0.items printed.1)) }
+    ensures { IfOk result (λ printed. OrdersTrace OCTETS network.now out.items orders.now (output printed.0.items printed.1)) }
 {
-    let notes = Notes::new(alloc, shows_octets);
-    let mut tracer = Tracer { notes, out };
+    let notes = Notes::new(alloc, OCTETS);
+    let mut tracer = Tracer::<OCTETS> { notes, out };
     match trace_all(&mut world, orders, &mut tracer) {
         Ok(()) => end_output(tracer.out, DONE),
         Err(stop) => stop_output(stop, tracer.out),
@@ -102,22 +101,21 @@ fn world_output(
 
 /// The text printed for a network of these lines and the orders of a schedule, and the exit status. The octets that are
 /// sent are shown, or not.
-pub(crate) fn orders_output(
+pub(crate) fn orders_output<const OCTETS: bool>(
     alloc: Global,
     lines: &[u8],
     network: &Network,
     orders: &[ScheduledOrder],
-    shows_octets: bool,
 ) -> Result<(Vec<u8>, u8), AllocError>
     ensures { IfOk result
-        (λ printed. OrdersTrace network.now (head_of_schedule (lines_of lines.now)) orders.now
+        (λ printed. OrdersTrace OCTETS network.now (head_of_schedule (lines_of lines.now)) orders.now
         (output printed.0.items printed.1)) }
 {
     let mut out = Vec::new(alloc);
     put_network(lines, &mut out)?;
     out.extend_from_slice(b"schedule\n")?;
     match World::new(alloc, network) {
-        Ok(world) => world_output(alloc, network, world, orders, shows_octets, out),
+        Ok(world) => world_output::<OCTETS>(alloc, network, world, orders, out),
         Err(_) => Err(AllocError),
     }
 }

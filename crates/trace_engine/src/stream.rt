@@ -13,25 +13,20 @@ use std::alloc::{AllocError, Global};
 use text_engines::{Engine, text_output};
 
 // What is printed for a network and a schedule behind it.
-fn network_output(
+fn network_output<const OCTETS: bool>(
     alloc: Global,
-    shows_octets: bool,
     split: &Split,
 ) -> Result<(Vec<u8>, u8), AllocError>
     requires { split.now.before + length split.now.behind.now < 2 ^ 64 }
     ensures { IfOk result
-        (λ printed. LinesTrace (lines_of split.now.front.now) split.now.before (lines_of split.now.behind.now)
+        (λ printed. LinesTrace OCTETS (lines_of split.now.front.now) split.now.before (lines_of split.now.behind.now)
         (output printed.0.items printed.1)) }
 {
     match read_network(alloc, split.front) {
         Ok(network) => match read_schedule(alloc, split.behind, split.before, &network) {
-            Ok(orders) => orders_output(
-                alloc,
-                split.front,
-                &network,
-                orders.as_slice(),
-                shows_octets,
-            ),
+            Ok(orders) => {
+                orders_output::<OCTETS>(alloc, split.front, &network, orders.as_slice())
+            }
             Err(refused) => text_output(alloc, &refused),
         },
         Err(refused) => text_output(alloc, &refused),
@@ -50,10 +45,14 @@ pub struct TraceEngine {
 
 impl Engine for TraceEngine {
     ghost gives = { λ engine text out.
-        LinesGive (ScheduleTraces (network_lines text)) (codes "schedule") (lines_of text) out };
+        LinesGive (ScheduleTraces engine.shows_octets (network_lines text)) (codes "schedule") (lines_of text) out };
 
     fn answer(&self, alloc: Global, text: &[u8]) -> Result<(Vec<u8>, u8), AllocError> {
         let split = split_at_section(text, b"schedule");
-        network_output(alloc, self.shows_octets, &split)
+        if self.shows_octets {
+            network_output::<true>(alloc, &split)
+        } else {
+            network_output::<false>(alloc, &split)
+        }
     }
 }

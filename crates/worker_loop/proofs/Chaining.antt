@@ -1,17 +1,19 @@
 -- What was done, one after the other.
-use Rattle.std.proofs.Common.{◌≡◌, ℕ, zero, suc, ◌+◌, ◌<◌, arith, replicate, List, [], ◌∷◌, ◌++◌, length, All, refl, sym, ap, ◌∙◌, subst, append_assoc, add-one, take, get_or, length-append}
+use Rattle.std.proofs.Common.{◌≡◌, ℕ, zero, suc, ◌+◌, ◌<◌, arith, replicate, List, [], ◌∷◌, ◌++◌, length, All, refl, sym, ap, ◌∙◌, subst, append_assoc, add-one, take, get_or, length-append, ◌≤◌, inl, inr, Some, None}
+use Rattle.std.specs.Prelude.{slice_get}
+use Rattle.std.proofs.lemmas.Option.{slice_get_cases, get_or_from_slice_get, slice_get_within}
 use Rattle.std.proofs.Math.Seq.{take-suc}
 use Rattle.std.proofs.lemmas.List.{append-nil}
 use Rattle.std.proofs.lemmas.List.Elements.{All-push}
 use Rattle.ranked_policy.specs.Plans.{Plan}
-use Rattle.router_model.specs.Settings.{Setting}
+use Rattle.router_model.specs.Settings.{Setting, peers}
 use Rattle.worker_loop.specs.declared.chore.Chore.{Chore}
 use Rattle.worker_loop.specs.declared.worker.Worker.{Worker}
 use Rattle.outbox.specs.declared.item.Item.{Item}
 use Rattle.run_model.specs.Stamps.{Collected}
 use Rattle.snap_marker.specs.Recordings.{MadeOffer}
 use Rattle.router_core.specs.Views.{plain_of}
-use Rattle.worker_loop.specs.Whole.{IsLaterWorker, IsSameWorker, IsSameBut, seen_of}
+use Rattle.worker_loop.specs.Whole.{IsLaterWorker, IsSameWorker, IsSameBut, PipesStand, peers_of, seen_of}
 use Rattle.worker_loop.specs.Acts.{Act, Seen}
 use Rattle.worker_loop.specs.Following.{Stage, Then, Nothing, Each, Obeys, Did}
 
@@ -58,6 +60,15 @@ did_again P net xs x (suc n) a b p q =
 pub one_more : {X : Type 0} → (xs : List X) (i : ℕ) (x : X) → i < length xs → x ≡ get_or xs i x → take (i + 1) xs ≡ take i xs ++ x ∷ []
 one_more xs i x below is = ap (λ n. take n xs) (add-one i) ∙ take-suc xs i x below ∙ ap (λ y. take i xs ++ y ∷ []) (sym is)
 
+pub next_of : (xs : List ℕ) (i x : ℕ) → slice_get xs i ≡ Some x → take (i + 1) xs ≡ take i xs ++ x ∷ []
+next_of xs i x at = one_more xs i x (slice_get_within xs i x at) (sym (get_or_from_slice_get xs i x x at))
+
+pub none_behind : (xs : List ℕ) (i : ℕ) → slice_get xs i ≡ None → length xs ≤ i
+none_behind xs i none = elim (slice_get_cases xs i).1 [ inl here ↦ absurd (let some = sym none ∙ here.2 in cc) | inr far ↦ far.0 ]
+
+pub all_below : (xs : List ℕ) (n : ℕ) → ((i x : ℕ) → slice_get xs i ≡ Some x → i < n) → length xs ≤ n
+all_below xs n below = elim (slice_get_cases xs n).1 [ inl here ↦ absurd (let less = below n here.0 here.2 in omega (arith, less)) | inr far ↦ far.0 ]
+
 pub all_more : (P : Chore → Type 0) (cs ds : List Chore) (c : Chore) → ds ≡ cs ++ c ∷ [] → All P cs → P c → All P ds
 all_more P cs ds c e all here = subst (All P) (sym e) (All-push P cs c all here)
 
@@ -67,7 +78,22 @@ one_longer xs ys x n e h = ap (λ k. k + 1) h ∙ sym (length-append xs (x ∷ [
 -- ---- the same worker, later
 
 pub same_on : {L D G W : Type 0} → (wiring : L → W) (a m b : Worker L D G) → IsLaterWorker wiring a m → IsLaterWorker wiring m b → IsLaterWorker wiring a b
-same_on wiring a m b p q = record { net = q.net ∙ p.net; number = q.number ∙ p.number; peers = q.peers ∙ p.peers; lines = q.lines ∙ p.lines }
+same_on wiring a m b p q = record { net = q.net ∙ p.net; number = q.number ∙ p.number; lines = q.lines ∙ p.lines }
+
+pub same_peers : {L D G W : Type 0} → (wiring : L → W) (a b : Worker L D G) → IsLaterWorker wiring a b → peers_of b ≡ peers_of a
+same_peers wiring a b s = ap (λ net. peers net b.router.number) s.net ∙ ap (λ u. peers a.router.net u) s.number
+
+-- its peers and their pipes stand where they stood
+pub peer_stays : {L D G W : Type 0} → (wiring : L → W) (a b : Worker L D G) → IsLaterWorker wiring a b → (place v : ℕ) → slice_get (peers_of a) place ≡ Some v → slice_get (peers_of b) place ≡ Some v
+peer_stays wiring a b s place v h = subst (λ ns. slice_get ns place ≡ Some v) (sym (same_peers wiring a b s)) h
+
+pub pipe_stays : {L D G W : Type 0} → (stands : W → ℕ → ℕ → Type 0) (wiring : L → W) (a b : Worker L D G) → IsLaterWorker wiring a b → (place v : ℕ) → stands (wiring a.lines) place v
+    → stands (wiring b.lines) place v
+pipe_stays stands wiring a b s place v h = subst (λ w. stands w place v) (sym s.lines) h
+
+pub pipes_stay : {L D G W : Type 0} → (stands : W → ℕ → ℕ → Type 0) (wiring : L → W) (a b : Worker L D G) → IsLaterWorker wiring a b → PipesStand stands wiring a → PipesStand stands wiring b
+pipes_stay stands wiring a b s all place v at =
+    pipe_stays stands wiring a b s place v (all place v (subst (λ ns. slice_get ns place ≡ Some v) (same_peers wiring a b s) at))
 
 pub later_still : {L D G W : Type 0} → (wiring : L → W) (a m b : Worker L D G) → IsSameWorker wiring a m → IsSameWorker wiring m b → IsSameWorker wiring a b
 later_still wiring a m b p q = record { later = same_on wiring a m b p.later q.later; gate = q.gate ∙ p.gate; chores = q.chores ∙ p.chores }
@@ -85,7 +111,6 @@ pub next_same : {L D G W : Type 0} → (wiring : L → W) (a m b : Worker L D G)
 next_same wiring a m b p s = record {
   net = ap (λ r. r.net) s.router ∙ p.net;
   number = ap (λ r. r.number) s.router ∙ p.number;
-  peers = ap (λ v. v.items) s.peers ∙ p.peers;
   lines = ap wiring s.lines ∙ p.lines;
 }
 

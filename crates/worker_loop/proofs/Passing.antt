@@ -18,17 +18,13 @@ use Rattle.worker_loop.specs.Acts.{Act, Seen}
 use Rattle.worker_loop.specs.declared.chore.Chore.{Chore}
 use Rattle.worker_loop.specs.declared.chore.Chore.TheVariants.{Turn}
 use Rattle.worker_loop.specs.Following.{Stage, Each, Meets, Turns, Obeys, Follows, Did}
-use Rattle.worker_loop.specs.Whole.{seen_of, MayPass, IsLaterWorker, IsSameBut}
+use Rattle.worker_loop.specs.Whole.{seen_of, peers_of, MayPass, IsQuiet, IsLaterWorker, IsSameBut}
 use Rattle.worker_loop.proofs.Acting.{Rests, does_none}
 use Rattle.worker_loop.proofs.Trying.{put_none, call_nothing, offer_none}
-use Rattle.worker_loop.proofs.Chaining.{did_at, did_of, did_again, seen_same, obeys_of}
+use Rattle.worker_loop.proofs.Chaining.{did_at, did_of, did_again, seen_same, same_peers, obeys_of}
 
 still : (a : Seen) → Rests a a
 still a = record { put = refl; taken = refl; room = refl; made = refl }
-
--- nothing is to be put towards a peer of a router, and nothing of it to be handled
-abbrev pub IsQuiet : RouterView → ℕ → Type 0
-IsQuiet x v = (cut : ℕ) → (linked x.net x.number v && (not (is_some (next_item cut (sides_of x v).outbox)) && not (is_waiting (sides_of x v).held))) ≡ true
 
 -- ---- what is tried with a peer, and with each
 
@@ -73,16 +69,16 @@ turn_of_nothing g x vs a net set is quiet decides tells offers =
 -- where it may pass over one, it did all that its gate gave together
 pub passes_on : {L D G W : Type 0} → (put taken : L → ℕ → List Item) (room : L → ℕ → ℕ) (made : D → List (Collected MadeOffer)) (wiring : L → W) (a m b : Worker L D G)
     (given now : List Chore) (n : ℕ) → IsLaterWorker wiring a m → IsSameBut m b → now ≡ given ++ replicate n Turn
-    → Did (λ k. Follows k a.router.number a.peers.items given) a.router.net (seen_of put taken room made a) (seen_of put taken room made m)
+    → Did (λ k. Follows k a.router.number (peers_of a) given) a.router.net (seen_of put taken room made a) (seen_of put taken room made m)
     → (0 < n → MayPass put taken room made m)
-    → Did (λ k. Follows k a.router.number a.peers.items now) a.router.net (seen_of put taken room made a) (seen_of put taken room made b)
+    → Did (λ k. Follows k a.router.number (peers_of a) now) a.router.net (seen_of put taken room made a) (seen_of put taken room made b)
 passes_on put taken room made wiring a m b given now n later same more before may =
     let u = a.router.number in
     let net = a.router.net in
-    let peers = a.peers.items in
+    let peers = peers_of a in
     let first = seen_of put taken room made a in
     let here = seen_of put taken room made m in
     let one = λ (some : 0 < n). did_at (λ v k. Obeys k v peers Turn) net m.router.net u m.router.number here here later.net later.number
-    (obeys_of m.router.net m.router.number peers m.peers.items Turn here here later.peers (may some)) in
+    (obeys_of m.router.net m.router.number peers (peers_of m) Turn here here (same_peers wiring a m later) (may some)) in
     subst (λ s. Did (λ k. Follows k u peers now) net first s) (sym (seen_same put taken room made m b same))
     (did_of (λ k x. Obeys k u peers x) net (given ++ replicate n Turn) now first here (sym more) (did_again (λ k x. Obeys k u peers x) net given Turn n first here before one))

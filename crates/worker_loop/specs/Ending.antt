@@ -15,7 +15,7 @@ use Rattle.worker_loop.specs.declared.chore.Chore.TheVariants as chore
 use Rattle.worker_loop.specs.declared.worker.WorkerFault.{WorkerFault}
 use Rattle.worker_loop.specs.declared.worker.WorkerFault.TheVariants as fault
 use Rattle.worker_loop.specs.declared.worker.Worker.{Worker}
-use Rattle.worker_loop.specs.Whole.{passing}
+use Rattle.worker_loop.specs.Whole.{passing, peers_of}
 
 -- how a call can end a worker, by what its router has to answer: a step by want of memory, a refusal that is not passed
 -- over by itself, and nothing else
@@ -65,7 +65,7 @@ module _ {L D G : Type 0} where
   -- something that is tried with some peer ends the worker
   pub record EndsMeeting (taken_from : L → ℕ → List Item) (w : Worker L D G) (why : WorkerFault) : Type 0 where
     pub peer : ℕ
-    pub is_peer : Contains w.peers.items peer
+    pub is_peer : Contains (peers_of w) peer
     pub ends : EndsMeet taken_from w peer why
 
   -- something that is tried in a turn ends the worker

@@ -53,7 +53,7 @@ pub trait Gate {
     }
 }
 
-/// The pipes between a worker and those of its router's peers.
+/// The pipes between a worker and those of its router's peers. Those of each peer stand at a place, counted from 0.
 pub trait Pipes {
     /// The items put towards each peer.
     ghost put_to: { Self → ℕ → List Item };
@@ -69,8 +69,16 @@ pub trait Pipes {
 
     ghost wiring: { Self → Wiring };
 
-    /// Puts an item towards a peer. It comes back only if as many were put as the pipe holds at most.
-    fn put<R: Wait>(&mut self, rt: &R, peer: Asn, item: Item) -> Result<(), Item>
+    /// At which place the pipes of which peer stand.
+    ghost stands: { Wiring → ℕ → ℕ → Type 0 };
+
+    /// How many places there are: no pipes stand behind them.
+    fn places(&self) -> usize
+        ensures { (peer_at v : ℕ) → stands (wiring self.now) peer_at v → peer_at < result };
+
+    /// Puts an item towards the peer at a place. It comes back only if as many were put as the pipe holds at most.
+    fn put<R: Wait>(&mut self, rt: &R, peer_at: usize, peer: Asn, item: Item) -> Result<(), Item>
+        requires stands { stands (wiring self.old) peer_at peer }
         ensures ok { OnOk result (put_to self.new ≡ grown (put_to self.old) peer item) }
         ensures err { OnErr result (put_to self.new ≡ put_to self.old) }
         ensures full { OnErr result (room self.old peer ≤ length (put_to self.old peer)) }
@@ -78,17 +86,19 @@ pub trait Pipes {
         ensures room { room self.new ≡ room self.old }
         ensures wiring { wiring self.new ≡ wiring self.old };
 
-    /// Whether the pipe to a peer is full, or there is none: only if as many items were put as it holds at most.
-    /// Nothing changes.
-    fn is_full(&mut self, peer: Asn) -> bool
+    /// Whether the pipe to the peer at a place is full, or there is none: only if as many items were put as it holds at
+    /// most. Nothing changes.
+    fn is_full(&mut self, peer_at: usize, peer: Asn) -> bool
+        requires stands { stands (wiring self.old) peer_at peer }
         ensures full { IsTrue result → room self.old peer ≤ length (put_to self.old peer) }
         ensures put { put_to self.new ≡ put_to self.old }
         ensures taken { taken_from self.new ≡ taken_from self.old }
         ensures room { room self.new ≡ room self.old }
         ensures wiring { wiring self.new ≡ wiring self.old };
 
-    /// Takes the next item of a peer, if it finds one.
-    fn take<R: Wait>(&mut self, rt: &R, peer: Asn) -> Option<Item>
+    /// Takes the next item of the peer at a place, if it finds one.
+    fn take<R: Wait>(&mut self, rt: &R, peer_at: usize, peer: Asn) -> Option<Item>
+        requires stands { stands (wiring self.old) peer_at peer }
         ensures taken { MatchOption result (taken_from self.new ≡ taken_from self.old)
             (λ item. taken_from self.new ≡ grown (taken_from self.old) peer item) }
         ensures put { put_to self.new ≡ put_to self.old }

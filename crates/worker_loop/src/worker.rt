@@ -13,7 +13,6 @@ ghost use Rattle.worker_loop.specs.declared.worker.WorkerFault.TheVariants.{Memo
 use crate::chore::Chore;
 use crate::journal::{Journal, WorkerEvent};
 use crate::traits::{Desk, Gate, Pipes};
-use ranked_policy::Asn;
 use router_core::Router;
 use router_model::RouterError;
 use std::alloc::AllocError;
@@ -37,8 +36,6 @@ pub enum WorkerFault {
 pub struct Worker<'a, L, D, G> {
     /// The router.
     pub router: Router<'a>,
-    /// The numbers of its peers, rising.
-    pub peers: Vec<Asn>,
     /// The pipes to its peers.
     pub lines: L,
     /// Its place at the board.
@@ -76,7 +73,7 @@ impl<'a, L: Pipes, D: Desk, G: Gate> Worker<'a, L, D, G> {
     ghost use Rattle.std.specs.Prelude.{◌≡◌, IfOk, IfErr};
     ghost use Rattle.worker_loop.specs.Following.{Follows};
     ghost use Rattle.worker_loop.specs.Ending.{EndsFor};
-    ghost use Rattle.worker_loop.specs.Whole.{DidSo, IsLaterWorker, IsWhole};
+    ghost use Rattle.worker_loop.specs.Whole.{DidSo, IsLaterWorker, IsWhole, PipesStand, peers_of};
     ghost use Rattle.std.specs.Prelude.{[]};
 
     /// Does the chores that the gate gives: so many, or up to the first Stop. After each chore it tells its desk what
@@ -88,12 +85,15 @@ impl<'a, L: Pipes, D: Desk, G: Gate> Worker<'a, L, D, G> {
     /// the list of chores has no room left, or if a call of the last chore has a step due. Refused with either if an
     /// offer waits in the router. A refused growth thus ends no turn in which nothing is due. Such a call may be a
     /// Take: its item has left the pipe then, and is lost.
+    ///
+    /// Premise: the pipes of each peer of its router stand at the place of that peer.
     pub fn work<R: Wait>(&mut self, rt: &R, board: &D::Board, turns: u32) -> Result<(), WorkerFault>
         requires fresh { G.given self.old.gate ≡ [] }
         requires blank { self.old.journal.chores.items ≡ [] }
+        requires pipes { PipesStand L.stands L.wiring self.old }
         ensures follows { IfOk result
             (λ _. DidSo L.put_to L.taken_from L.room D.made self.old self.new
-            (λ g. Follows g self.old.router.number self.old.peers.items (G.given self.new.gate))) }
+            (λ g. Follows g self.old.router.number (peers_of self.old) (G.given self.new.gate))) }
         ensures whole { IfOk result (λ _. IsWhole turns (G.given self.new.gate)) }
         ensures chores { IfOk result (λ _. self.new.journal.chores.items ≡ G.given self.new.gate) }
         ensures same { IsLaterWorker L.wiring self.old self.new }

@@ -16,7 +16,7 @@ use Rattle.world_core.specs.Orders.{StopsAt, IsRefused, with_peer}
 use Rattle.world_core.specs.IdleTurns.{TurnsAreIdleBeside}
 use Rattle.world_core.specs.Steps.{LinkIsIdle, IsIdle}
 use Rattle.world_core.specs.Views.{WorldView, plain_world, Answers, Obeys}
-use Rattle.world_core.specs.Watching.{Adds, StepText, EventsText, WantsOr, HaltsAt, WatchesEvents}
+use Rattle.world_core.specs.Watching.{Adds, Sayings, StepText, EventsText, WantsOr, HaltsAt, WatchesEvents}
 use Rattle.world_core.proofs.Awake.{Spares, beside_own}
 use Rattle.world_core.proofs.Orders.{on_to, obeys_behind, obeys_one, idle_obeys, still_is}
 use Rattle.world_core.proofs.Resting.{grows}
@@ -26,7 +26,7 @@ use Rattle.world_core.proofs.Worlds.{is_refused}
 pub added : (P Q R : List ℕ → Type 0) (old mid new : List ℕ) → Adds old mid P → Adds mid new Q → ((s t : List ℕ) → P s → Q t → R (s ++ t)) → Adds old new R
 added P Q R old mid new a b both = (a.0 ++ b.0, both a.0 b.0 a.1 b.1, b.2 ∙ ap (λ (t : List ℕ). t ++ b.0) a.2 ∙ append_assoc old a.0 b.0)
 
-module _ (Says : Event → List ℕ → Type 0) (g : Setting) where
+module _ (Says : Sayings) (g : Setting) where
   behind_by : (a : WorldAnswer) (w y : World) (x : Event) (at : ℕ) (xs ys : List Event) (s t : List ℕ)
       → ((next : World) (r : List ℕ) → played g next (at + 1) xs ≡ Ok y → EventsText Says g next xs r → EventsText Says g next (xs ++ ys) (r ++ t))
       → onward (world_of g w x at a) (λ next. played g next (at + 1) xs) ≡ Ok y
@@ -69,9 +69,10 @@ module _ (Says : Event → List ℕ → Type 0) (g : Setting) where
 
   -- ---- one event
 
-  did : (a : WorldAnswer) (w y : World) (x : Event) (old new : List ℕ) → Gives g (Ok stepped.Did) a w x y → Adds old new (Says x)
+  did : (a : WorldAnswer) (w y : World) (x : Event) (old new : List ℕ) → Gives g (Ok stepped.Did) a w x y → Adds old new (Says w x y)
       → (onward (world_of g w x 0 a) (λ next. Ok next) ≡ Ok y) × Adds old new (StepText Says g w x a (λ next r. r ≡ []))
-  did (Does u e stamp) w y x old new h add = (ap Ok (sym h.1), (add.0, (add.0, [], add.1, refl, sym (append-nil add.0)), add.2))
+  did (Does u e stamp) w y x old new h add =
+      (ap Ok (sym h.1), (add.0, (add.0, [], subst (λ (v : World). Says w x v add.0) h.1 add.1, refl, sym (append-nil add.0)), add.2))
   did Nothing w y x old new h add = (let k = h.0 in absurd cc)
   did (Stops fault) w y x old new h add = (let k = h.0 in absurd cc)
 
@@ -81,8 +82,8 @@ module _ (Says : Event → List ℕ → Type 0) (g : Setting) where
   idled Nothing w y x old h = (ap Ok (sym h.1), ([], refl, sym (append-nil old)))
   idled (Stops fault) w y x old h = (let k = h.0 in absurd cc)
 
-module _ (Says : Event → List ℕ → Type 0) (may : Bool) where
-  pub one_did : (x y : WorldView) (event : Event) (old new : List ℕ) → Answers (Ok stepped.Did) x event y → Adds old new (Says event) → WatchesEvents Says may (Ok tt) x (event ∷ []) old y new
+module _ (Says : Sayings) (may : Bool) where
+  pub one_did : (x y : WorldView) (event : Event) (old new : List ℕ) → Answers (Ok stepped.Did) x event y → Adds old new (Says (plain_world x) event (plain_world y)) → WatchesEvents Says may (Ok tt) x (event ∷ []) old y new
   one_did x y event old new h add = λ g e ranks. did Says g (world_answer g (plain_world x) event) (plain_world x) (plain_world y) event old new (h g e ranks) add
 
   pub one_idled : (x y : WorldView) (event : Event) (old : List ℕ) → Answers (Ok stepped.Nothing) x event y → WatchesEvents Says may (Ok tt) x (event ∷ []) old y old

@@ -13,7 +13,7 @@ use Rattle.world_core.specs.declared.schedule.StepFault.TheVariants.{Memory}
 use Rattle.world_core.specs.World.{World, WorldAnswer, Played, world_of, onward, played}
 use Rattle.world_core.specs.Orders.{IsRefused, StopsAt, events_of, repeated, round, second}
 use Rattle.world_core.specs.Views.{WorldView, plain_world, Obeys}
-use Rattle.world_core.specs.Watching.{Adds, EventsText, round_text, BehindRound, RoundsText, WorkText, end_of, reached, rest_in, WantsOr, HaltsAt, HaltsIn, WatchesEvents, WatchesRounds, WatchesOrder}
+use Rattle.world_core.specs.Watching.{Adds, Sayings, EventsText, round_text, BehindRound, RoundsText, WorkText, end_of, reached, rest_in, WantsOr, HaltsAt, HaltsIn, WatchesEvents, WatchesRounds, WatchesOrder}
 use Rattle.world_core.proofs.Orders.{repeated_among, stops_behind, stops_before}
 use Rattle.world_core.proofs.Resting.{grows, rests}
 use Rattle.world_core.proofs.Watched.{silent, halted_text}
@@ -63,7 +63,7 @@ stops_there g w y events at why kind s =
     let t = played_then g s.before (s.event ∷ s.behind) w y 0 s.reached in
     (record { at = t.0; why = why }, ap (λ (es : List Event). played g w 0 es) s.parts ∙ t.1 ∙ not_played g y s.event s.behind t.0 why kind s.refused)
 
-module _ (Says : Event → List ℕ → Type 0) (line : ℕ → ℕ → List ℕ) where
+module _ (Says : Sayings) (line : ℕ → ℕ → List ℕ) where
   module _ (g : Setting) where
     -- ---- one round, and those behind it
 

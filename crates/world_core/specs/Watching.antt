@@ -1,5 +1,6 @@
 -- What a watcher says of the events that a world does, and of its rounds. `Says` is what may be said of an event that was
--- done, `line` what is said behind a round of a number that did so many events, `may` whether the watcher may want memory.
+-- done, by the worlds before and behind it, `line` what is said behind a round of a number that did so many events, `may`
+-- whether the watcher may want memory.
 use Rattle.std.specs.Prelude.{◌≡◌, ◌≢◌, ℕ, zero, suc, ◌+◌, ◌-◌, ◌==◌, Bool, true, List, [], ◌∷◌, ◌++◌, length, Option, None, Some, Result, Ok, Err, MatchResult, if◌then◌else◌, ◌⊎◌}
 use Rattle.router_model.specs.Settings.{Setting, ChoosesByRank}
 use Rattle.world_core.specs.declared.schedule.Event.{Event}
@@ -11,21 +12,33 @@ use Rattle.world_core.specs.World.{World, WorldAnswer, Does, Nothing, Stops, Pla
 use Rattle.world_core.specs.Orders.{events_of, repeated, round, second, StopsAt}
 use Rattle.world_core.specs.Views.{WorldView, plain_world}
 
+-- what may be said of an event that leads from a world to another
+abbrev pub Sayings : Type 1
+Sayings = World → Event → World → List ℕ → Type 0
+
+-- what was shown before an event: a world, and the event
+abbrev pub Shown : Type 1
+Shown = World → Event → Type 0
+
 -- the new text is the old one, with such a text behind it
 abbrev pub Adds : List ℕ → List ℕ → (List ℕ → Type 0) → Type 0
 Adds old new Is = (text : List ℕ) × Is text × (new ≡ old ++ text)
+
+-- behind an event, and in this world, something of it is said that may be said from each world that was shown before it
+abbrev pub SaysBehind : Shown → Sayings → Event → World → List ℕ → List ℕ → Type 0
+SaysBehind saw says event behind old new = (before : World) → saw before event → Adds old new (says before event behind)
 
 -- ---- events
 
 -- of an event that is done something is said, and the world goes on; of an event that finds nothing to do nothing is
 -- said; behind an event that is refused nothing is done
-abbrev pub StepText : (Event → List ℕ → Type 0) → Setting → World → Event → WorldAnswer → (World → List ℕ → Type 0) → List ℕ → Type 0
+abbrev pub StepText : Sayings → Setting → World → Event → WorldAnswer → (World → List ℕ → Type 0) → List ℕ → Type 0
 StepText Says g w event (Does u e stamp) More text =
-    (said : List ℕ) × (rest : List ℕ) × Says event said × More (world_after g w event u e stamp) rest × (text ≡ said ++ rest)
+    (said : List ℕ) × (rest : List ℕ) × Says w event (world_after g w event u e stamp) said × More (world_after g w event u e stamp) rest × (text ≡ said ++ rest)
 StepText Says g w event Nothing More text = More w text
 StepText Says g w event (Stops fault) More text = text ≡ []
 
-abbrev pub EventsText : (Event → List ℕ → Type 0) → Setting → World → List Event → List ℕ → Type 0
+abbrev pub EventsText : Sayings → Setting → World → List Event → List ℕ → Type 0
 EventsText Says g w [] text = text ≡ []
 EventsText Says g w (event ∷ events) text = StepText Says g w event (world_answer g w event) (λ next rest. EventsText Says g next events rest) text
 
@@ -42,14 +55,14 @@ BehindRound line w number (Ok y) More text = (rest : List ℕ) × More y rest ×
 BehindRound line w number (Err fault) More text = text ≡ []
 
 -- the text of so many rounds, behind so many others
-abbrev pub RoundsText : (Event → List ℕ → Type 0) → (ℕ → ℕ → List ℕ) → Setting → World → ℕ → ℕ → List ℕ → Type 0
+abbrev pub RoundsText : Sayings → (ℕ → ℕ → List ℕ) → Setting → World → ℕ → ℕ → List ℕ → Type 0
 RoundsText Says line g w passed zero text = text ≡ []
 RoundsText Says line g w passed (suc n) text =
     (events : List ℕ) × (behind : List ℕ) × EventsText Says g w (round g.net) events
     × BehindRound line w (passed + 1) (played g w 0 (round g.net)) (λ next rest. RoundsText Says line g next (passed + 1) n rest) behind × (text ≡ events ++ behind)
 
 -- the text of the events of an order
-abbrev pub WorkText : (Event → List ℕ → Type 0) → (ℕ → ℕ → List ℕ) → Setting → World → Order → List ℕ → Type 0
+abbrev pub WorkText : Sayings → (ℕ → ℕ → List ℕ) → Setting → World → Order → List ℕ → Type 0
 WorkText Says line g w (order.One e) text = EventsText Says g w (e ∷ []) text
 WorkText Says line g w (order.Rounds n) text = RoundsText Says line g w 0 n text
 WorkText Says line g w (order.Ticks n) text = EventsText Says g w (repeated n (second g.net)) text
@@ -81,11 +94,11 @@ abbrev pub WantsOr : Bool → StepFault → Type 0 → Type 0
 WantsOr may why ends = ((may ≡ true) × (why ≡ Memory)) ⊎ ends
 
 -- the first event that is refused, and the text of those before it
-abbrev pub HaltsAt : (Event → List ℕ → Type 0) → Setting → World → List Event → StepFault → World → List ℕ → List ℕ → Type 0
+abbrev pub HaltsAt : Sayings → Setting → World → List Event → StepFault → World → List ℕ → List ℕ → Type 0
 HaltsAt Says g w events why y old new = (at : ℕ) × (s : StopsAt g w events at why y) × Adds old new (EventsText Says g w s.before)
 
 -- a call that does events
-abbrev pub WatchesEvents : (Event → List ℕ → Type 0) → Bool → Result (Unit {0}) StepFault → WorldView → List Event → List ℕ → WorldView → List ℕ → Type 0
+abbrev pub WatchesEvents : Sayings → Bool → Result (Unit {0}) StepFault → WorldView → List Event → List ℕ → WorldView → List ℕ → Type 0
 WatchesEvents Says may r x events old y new =
     (g : Setting) → g.net ≡ x.net → ChoosesByRank g
     → MatchResult r
@@ -97,7 +110,7 @@ abbrev pub HaltsIn : Setting → World → List Event → StepFault → World �
 HaltsIn g w events why y old new Is = (at : ℕ) × StopsAt g w events at why y × (why ≢ Memory → Adds old new Is)
 
 -- a call that does so many rounds
-abbrev pub WatchesRounds : (Event → List ℕ → Type 0) → (ℕ → ℕ → List ℕ) → Bool → Result (Option ℕ) StepFault → WorldView → ℕ → List ℕ → WorldView → List ℕ → Type 0
+abbrev pub WatchesRounds : Sayings → (ℕ → ℕ → List ℕ) → Bool → Result (Option ℕ) StepFault → WorldView → ℕ → List ℕ → WorldView → List ℕ → Type 0
 WatchesRounds Says line may r x n old y new =
     (g : Setting) → g.net ≡ x.net → ChoosesByRank g
     → MatchResult r
@@ -105,7 +118,7 @@ WatchesRounds Says line may r x n old y new =
     (λ why. WantsOr may why (HaltsIn g (plain_world x) (repeated n (round g.net)) why (plain_world y) old new (RoundsText Says line g (plain_world x) 0 n)))
 
 -- a call that does the events of an order, and answers how many rounds did something before one did nothing
-abbrev pub WatchesOrder : (Event → List ℕ → Type 0) → (ℕ → ℕ → List ℕ) → Bool → Result (Option ℕ) StepFault → WorldView → Order → List ℕ → WorldView → List ℕ → Type 0
+abbrev pub WatchesOrder : Sayings → (ℕ → ℕ → List ℕ) → Bool → Result (Option ℕ) StepFault → WorldView → Order → List ℕ → WorldView → List ℕ → Type 0
 WatchesOrder Says line may r x order old y new =
     (g : Setting) → g.net ≡ x.net → ChoosesByRank g
     → MatchResult r

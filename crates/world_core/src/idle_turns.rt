@@ -14,21 +14,21 @@ pub(crate) fn no_marks(alloc: Global, routers: usize) -> Vec<bool>
 }
 
 /// Whether the router at a place has a mark.
-pub(crate) fn is_marked(marks: &[bool], place: usize) -> bool
-    ensures { IsTrue result ↔ (slice_get marks.now place ≡ Some true) }
+pub(crate) fn is_marked(marks: &[bool], router_at: usize) -> bool
+    ensures { IsTrue result ↔ (slice_get marks.now router_at ≡ Some true) }
 {
-    match marks.get(place) {
+    match marks.get(router_at) {
         Some(mark) => *mark,
         None => false,
     }
 }
 
 /// Marks the router at a place if there is room for it, or takes its mark away.
-pub(crate) fn mark(marks: &mut Vec<bool>, place: usize, rests: bool)
-    ensures here { slice_get marks.new.items place ≡ Some true → rests ≡ true }
-    ensures others { (other : ℕ) → other ≢ place → slice_get marks.new.items other ≡ slice_get marks.old.items other }
+pub(crate) fn mark(marks: &mut Vec<bool>, router_at: usize, rests: bool)
+    ensures here { slice_get marks.new.items router_at ≡ Some true → rests ≡ true }
+    ensures others { (other : ℕ) → other ≢ router_at → slice_get marks.new.items other ≡ slice_get marks.old.items other }
 {
-    if place < marks.len() {
-        marks[place] = rests;
+    if router_at < marks.len() {
+        marks[router_at] = rests;
     }
 }

@@ -57,22 +57,22 @@ pub(crate) fn enter_put(
     run: &mut Vec<Event>,
     pipe: &mut VecDeque<Item>,
     event: &Event,
-    place: usize,
+    peer_at: usize,
     peer: Asn,
 ) -> Result<Stepped, StepFault>
-    requires { slice_get (peers router.old.net router.old.number) place ≡ Some peer }
+    requires { slice_get (peers router.old.net router.old.number) peer_at ≡ Some peer }
     ensures enters { EntersPut result router.old run.old.items pipe.old.items event.now peer router.new run.new.items
         pipe.new.items }
     ensures same { IsSame router.old router.new }
 {
-    let item = match router.next_item_at(place, peer) {
+    let item = match router.next_item_at(peer_at, peer) {
         Ok(Some(item)) => item,
         Ok(None) => return Ok(Stepped::Nothing),
         Err(error) => return refusal(error),
     };
     run.reserve(1)?;
     pipe.reserve(1)?;
-    router.item_put_at(place, peer);
+    router.item_put_at(peer_at, peer);
     pipe.push_back(item).unwrap();
     join(run, event);
     Ok(Stepped::Did)
@@ -84,10 +84,10 @@ pub(crate) fn enter_take(
     run: &mut Vec<Event>,
     pipe: &mut VecDeque<Item>,
     event: &Event,
-    place: usize,
+    peer_at: usize,
     peer: Asn,
 ) -> Result<Stepped, StepFault>
-    requires { slice_get (peers router.old.net router.old.number) place ≡ Some peer }
+    requires { slice_get (peers router.old.net router.old.number) peer_at ≡ Some peer }
     ensures enters { EntersTake result router.old run.old.items pipe.old.items event.now peer router.new run.new.items
         pipe.new.items }
     ensures same { IsSame router.old router.new }
@@ -96,7 +96,7 @@ pub(crate) fn enter_take(
         return Ok(Stepped::Nothing);
     };
     let room = run.reserve(1);
-    match router.take_at(place, peer, item, room) {
+    match router.take_at(peer_at, peer, item, room) {
         Ok(Stepped::Did) => {
             join(run, event);
             pipe.pop_front();

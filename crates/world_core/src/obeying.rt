@@ -107,8 +107,8 @@ impl<'a> World<'a> {
         ensures same { self.new.net ≡ self.old.net }
         ensures resting { OnOk result (TurnsAreIdle self.new marks.new.items) }
     {
-        for (at, router) in self.network().routers().iter().enumerate() {
-            self.visit(at, router.asn, marks, watcher)?;
+        for (router_at, router) in self.network().routers().iter().enumerate() {
+            self.visit(router_at, router.asn, marks, watcher)?;
         }
         Ok(())
     }
@@ -117,26 +117,26 @@ impl<'a> World<'a> {
     // since.
     fn visit<W: Watch>(
         &mut self,
-        at: usize,
+        router_at: usize,
         number: Asn,
         marks: &mut Vec<bool>,
         watcher: &mut W,
     ) -> Result<(), StepFault>
-        requires router { slice_get (numbers self.old.net.routers) at ≡ Some number }
+        requires router { slice_get (numbers self.old.net.routers) router_at ≡ Some number }
         requires resting { TurnsAreIdle self.old marks.old.items }
         ensures watches { WatchesEvents W.says W.may_want result self.old (turn self.old.net number)
             (W.said watcher.old) self.new (W.said watcher.new) }
         ensures same { self.new.net ≡ self.old.net }
         ensures resting { OnOk result (TurnsAreIdle self.new marks.new.items) }
     {
-        if is_marked(marks.as_slice(), at) {
+        if is_marked(marks.as_slice(), router_at) {
             return Ok(());
         }
         let _ = &self.state;
         let before = self.run().len();
-        self.turn(at, number, marks, watcher)?;
+        self.turn(router_at, number, marks, watcher)?;
         if self.run().len() == before {
-            mark(marks, at, true);
+            mark(marks, router_at, true);
         }
         Ok(())
     }
@@ -147,8 +147,8 @@ impl<'a> World<'a> {
             self.new (W.said watcher.new) }
         ensures same { self.new.net ≡ self.old.net }
     {
-        for (at, router) in self.network().routers().iter().enumerate() {
-            self.watched(at, 0, &Event::Tick(router.asn), watcher)?;
+        for (router_at, router) in self.network().routers().iter().enumerate() {
+            self.watched(router_at, 0, &Event::Tick(router.asn), watcher)?;
         }
         Ok(())
     }
@@ -156,12 +156,12 @@ impl<'a> World<'a> {
     // Does what the router at a place tries with each peer, rising, and then alone.
     fn turn<W: Watch>(
         &mut self,
-        at: usize,
+        router_at: usize,
         number: Asn,
         marks: &mut Vec<bool>,
         watcher: &mut W,
     ) -> Result<(), StepFault>
-        requires router { slice_get (numbers self.old.net.routers) at ≡ Some number }
+        requires router { slice_get (numbers self.old.net.routers) router_at ≡ Some number }
         requires resting { TurnsAreIdleBeside self.old number marks.old.items }
         ensures watches { WatchesEvents W.says W.may_want result self.old (turn self.old.net number)
             (W.said watcher.old) self.new (W.said watcher.new) }
@@ -169,24 +169,24 @@ impl<'a> World<'a> {
         ensures resting { OnOk result (TurnsAreIdleBeside self.new number marks.new.items) }
     {
         answers_are_steps();
-        for place in 0..self.state.pipes_at(at, number).len() {
-            let peer = self.state.pipes_at(at, number)[place].peer;
-            self.exchange(at, number, place, peer, marks, watcher)?;
+        for peer_at in 0..self.state.pipes_at(router_at, number).len() {
+            let peer = self.state.pipes_at(router_at, number)[peer_at].peer;
+            self.exchange(router_at, number, peer_at, peer, marks, watcher)?;
         }
-        self.alone(at, number, watcher)
+        self.alone(router_at, number, watcher)
     }
 
     // Does what the router at a place tries with the peer at a place. Nothing is tried if nothing waits between them.
     fn exchange<W: Watch>(
         &mut self,
-        at: usize,
+        router_at: usize,
         number: Asn,
-        place: usize,
+        peer_at: usize,
         peer: Asn,
         marks: &mut Vec<bool>,
         watcher: &mut W,
     ) -> Result<(), StepFault>
-        requires placed { ArePlaced self.old.net number peer at place }
+        requires placed { ArePlaced self.old.net number peer router_at peer_at }
         requires resting { TurnsAreIdleBeside self.old number marks.old.items }
         ensures watches { WatchesEvents W.says W.may_want result self.old (with_peer number peer) (W.said watcher.old)
             self.new (W.said watcher.new) }
@@ -195,26 +195,26 @@ impl<'a> World<'a> {
     {
         answers_are_steps();
         linked_routers_are_peers();
-        if self.state.link_is_idle_at(at, place, number, peer) {
+        if self.state.link_is_idle_at(router_at, peer_at, number, peer) {
             return Ok(());
         }
-        self.put(at, number, place, peer, marks, watcher)?;
-        self.watched(at, place, &Event::Take(number, peer), watcher)?;
-        self.watched(at, place, &Event::Handle(number, peer), watcher)
+        self.put(router_at, number, peer_at, peer, marks, watcher)?;
+        self.watched(router_at, peer_at, &Event::Take(number, peer), watcher)?;
+        self.watched(router_at, peer_at, &Event::Handle(number, peer), watcher)
     }
 
     // Lets the router at a place put the next item towards the peer at a place, if there is one. The peer then rests no
     // longer.
     fn put<W: Watch>(
         &mut self,
-        at: usize,
+        router_at: usize,
         number: Asn,
-        place: usize,
+        peer_at: usize,
         peer: Asn,
         marks: &mut Vec<bool>,
         watcher: &mut W,
     ) -> Result<(), StepFault>
-        requires placed { ArePlaced self.old.net number peer at place }
+        requires placed { ArePlaced self.old.net number peer router_at peer_at }
         requires resting { TurnsAreIdleBeside self.old number marks.old.items }
         ensures watches { WatchesEvents W.says W.may_want result self.old (Put number peer ∷ []) (W.said watcher.old)
             self.new (W.said watcher.new) }
@@ -223,9 +223,9 @@ impl<'a> World<'a> {
     {
         answers_are_steps();
         linked_routers_are_peers();
-        let (router, _) = self.state.back_at(at, place, number, peer);
+        let (router, _) = self.state.back_at(router_at, peer_at, number, peer);
         let before = self.run().len();
-        self.watched(at, place, &Event::Put(number, peer), watcher)?;
+        self.watched(router_at, peer_at, &Event::Put(number, peer), watcher)?;
         if self.run().len() != before {
             mark(marks, router, false);
         }
@@ -233,18 +233,23 @@ impl<'a> World<'a> {
     }
 
     // Lets the router at a place decide, tell and offer, each once. Nothing is tried if it has nothing to do.
-    fn alone<W: Watch>(&mut self, at: usize, number: Asn, watcher: &mut W) -> Result<(), StepFault>
-        requires { slice_get (numbers self.old.net.routers) at ≡ Some number }
+    fn alone<W: Watch>(
+        &mut self,
+        router_at: usize,
+        number: Asn,
+        watcher: &mut W,
+    ) -> Result<(), StepFault>
+        requires { slice_get (numbers self.old.net.routers) router_at ≡ Some number }
         ensures watches { WatchesEvents W.says W.may_want result self.old
             (Decide number ∷ Advertise number ∷ Offer number ∷ []) (W.said watcher.old) self.new (W.said watcher.new) }
         ensures same { self.new.net ≡ self.old.net }
     {
-        if self.state.routers[at].is_idle() {
+        if self.state.routers[router_at].is_idle() {
             return Ok(());
         }
-        self.watched(at, 0, &Event::Decide(number), watcher)?;
-        self.watched(at, 0, &Event::Advertise(number), watcher)?;
-        self.watched(at, 0, &Event::Offer(number), watcher)
+        self.watched(router_at, 0, &Event::Decide(number), watcher)?;
+        self.watched(router_at, 0, &Event::Advertise(number), watcher)?;
+        self.watched(router_at, 0, &Event::Offer(number), watcher)
     }
 
     // Does one event.
@@ -253,26 +258,26 @@ impl<'a> World<'a> {
             self.new (W.said watcher.new) }
         ensures same { self.new.net ≡ self.old.net }
     {
-        let (at, place) = self.state.places(event)?;
-        self.watched(at, place, event, watcher)
+        let (router_at, peer_at) = self.state.places(event)?;
+        self.watched(router_at, peer_at, event, watcher)
     }
 
     // Does an event of the router at a place, with the peer at a place if it names one, while a watcher looks on.
     fn watched<W: Watch>(
         &mut self,
-        at: usize,
-        place: usize,
+        router_at: usize,
+        peer_at: usize,
         event: &Event,
         watcher: &mut W,
     ) -> Result<(), StepFault>
-        requires { IsPlaced self.old.net event.now at place }
+        requires { IsPlaced self.old.net event.now router_at peer_at }
         ensures watches { WatchesEvents W.says W.may_want result self.old (event.now ∷ []) (W.said watcher.old)
             self.new (W.said watcher.new) }
         ensures same { self.new.net ≡ self.old.net }
     {
         steps_are_replayed();
         watcher.before_event(self, event)?;
-        match self.state.step_at(at, place, event)? {
+        match self.state.step_at(router_at, peer_at, event)? {
             Stepped::Did => watcher.behind_event(self, event)?,
             Stepped::Nothing => {}
         }

@@ -38,7 +38,7 @@ impl<'a> State<'a> {
         ensures { IsPlaceOf result (view_of self.now) number }
     {
         match self.network.place(number) {
-            Some(at) => Ok(at),
+            Some(router_at) => Ok(router_at),
             None => Err(StepFault::NoSuchRouter),
         }
     }
@@ -46,18 +46,18 @@ impl<'a> State<'a> {
     // Makes a call, which touches no pipe, of the router at a place.
     fn ask_at(
         &mut self,
-        at: usize,
+        router_at: usize,
         event: &Event,
         number: Asn,
         call: &Call,
     ) -> Result<Stepped, StepFault>
-        requires { StandsAt (view_of self.old) number at }
+        requires { StandsAt (view_of self.old) number router_at }
         ensures { Leaves (Asks result (view_of self.old) number event.now (call_of call.now) (view_of self.new))
             (view_of self.old) (view_of self.new) }
     {
         answers_are_steps();
         let room = self.run.reserve(1);
-        let called = self.routers[at].perform(call, room);
+        let called = self.routers[router_at].perform(call, room);
         log_answer(&mut self.run, event, called)
     }
 
@@ -67,33 +67,33 @@ impl<'a> State<'a> {
         ensures { FindsLink result (view_of self.now) number peer }
     {
         linked_routers_are_peers();
-        let at = self.place(number)?;
+        let router_at = self.place(number)?;
         self.place(peer)?;
-        match place_of(self.inboxes[at].pipes.as_slice(), peer) {
-            Some(pipe) => Ok((at, pipe)),
+        match place_of(self.inboxes[router_at].pipes.as_slice(), peer) {
+            Some(pipe) => Ok((router_at, pipe)),
             None => Err(StepFault::NoSuchLink),
         }
     }
 
     /// The place of a peer, and that of the pipe from a router to it. The router and the pipe from the peer stand at the
     /// places given.
-    pub fn back_at(&self, at: usize, pipe: usize, number: Asn, peer: Asn) -> (usize, usize)
-        requires { LinkAt (view_of self.now) number peer at pipe }
+    pub fn back_at(&self, router_at: usize, pipe: usize, number: Asn, peer: Asn) -> (usize, usize)
+        requires { LinkAt (view_of self.now) number peer router_at pipe }
         ensures { LinkAt (view_of self.now) peer number result.0 result.1 }
     {
         linked_routers_are_peers();
-        let pipe = &self.inboxes[at].pipes[pipe];
+        let pipe = &self.inboxes[router_at].pipes[pipe];
         (pipe.router, pipe.back)
     }
 
     // Lets the router at a place make the offer that waits in front.
-    fn offer_at(&mut self, at: usize, number: Asn) -> Result<Stepped, StepFault>
-        requires { StandsAt (view_of self.old) number at }
+    fn offer_at(&mut self, router_at: usize, number: Asn) -> Result<Stepped, StepFault>
+        requires { StandsAt (view_of self.old) number router_at }
         ensures { StepsTo result (view_of self.old) (Offer number) (view_of self.new) }
     {
         let event = Event::Offer(number);
         enter_offer(
-            &mut self.routers[at],
+            &mut self.routers[router_at],
             &mut self.run,
             &mut self.collector,
             &mut self.board,
@@ -102,21 +102,21 @@ impl<'a> State<'a> {
     }
 
     /// The pipes that lead to the router at a place, by rising peer.
-    pub fn pipes_at(&self, at: usize, number: Asn) -> &[Pipe]
-        requires { StandsAt (view_of self.now) number at }
+    pub fn pipes_at(&self, router_at: usize, number: Asn) -> &[Pipe]
+        requires { StandsAt (view_of self.now) number router_at }
         ensures { map (λ p. p.peer) result.now ≡ peers (view_of self.now).net number }
     {
-        self.inboxes[at].pipes.as_slice()
+        self.inboxes[router_at].pipes.as_slice()
     }
 
     /// Whether nothing has to be put, taken or handled between a router and a peer. The router and the pipe from the
     /// peer stand at these places.
-    pub fn link_is_idle_at(&self, at: usize, pipe: usize, number: Asn, peer: Asn) -> bool
-        requires { LinkAt (view_of self.now) number peer at pipe }
+    pub fn link_is_idle_at(&self, router_at: usize, pipe: usize, number: Asn, peer: Asn) -> bool
+        requires { LinkAt (view_of self.now) number peer router_at pipe }
         ensures { result ≡ true → LinkIsIdle (view_of self.now) number peer }
     {
-        match self.inboxes[at].pipes[pipe].items.front() {
-            None => self.routers[at].link_is_idle_at(pipe, peer),
+        match self.inboxes[router_at].pipes[pipe].items.front() {
+            None => self.routers[router_at].link_is_idle_at(pipe, peer),
             Some(_) => false,
         }
     }
@@ -127,10 +127,10 @@ impl<'a> State<'a> {
         ensures { MatchOption result (NothingComes (view_of self.now) number peer)
             (λ item. comes_next (view_of self.now) number peer ≡ Some item.now) }
     {
-        let Ok((at, pipe)) = self.link(number, peer) else {
+        let Ok((router_at, pipe)) = self.link(number, peer) else {
             return None;
         };
-        self.inboxes[at].pipes[pipe].items.front()
+        self.inboxes[router_at].pipes[pipe].items.front()
     }
 
     /// The place of the router that does an event, and that of the pipe from the peer, if the event names one.
@@ -145,37 +145,42 @@ impl<'a> State<'a> {
     }
 
     /// Does one event. The router, and the pipe from the peer that it names, stand at these places.
-    pub fn step_at(&mut self, at: usize, pipe: usize, event: &Event) -> Result<Stepped, StepFault>
+    pub fn step_at(
+        &mut self,
+        router_at: usize,
+        pipe: usize,
+        event: &Event,
+    ) -> Result<Stepped, StepFault>
         requires whole { IsWhole (view_of self.old) }
-        requires placed { IsPlaced (view_of self.old).net event.now at pipe }
+        requires placed { IsPlaced (view_of self.old).net event.now router_at pipe }
         ensures { StepsTo result (view_of self.old) event.now (view_of self.new) }
     {
         answers_are_steps();
         linked_routers_are_peers();
         match *event {
             Event::Command(number, command) => {
-                self.ask_at(at, event, number, &Call::Obey(command))
+                self.ask_at(router_at, event, number, &Call::Obey(command))
             }
-            Event::Tick(number) => self.ask_at(at, event, number, &Call::Tick),
+            Event::Tick(number) => self.ask_at(router_at, event, number, &Call::Tick),
             Event::Put(number, peer) => {
-                let (to, into) = self.back_at(at, pipe, number, peer);
+                let (to, into) = self.back_at(router_at, pipe, number, peer);
                 let items = &mut self.inboxes[to].pipes[into].items;
-                let router = &mut self.routers[at];
+                let router = &mut self.routers[router_at];
                 enter_put(router, &mut self.run, items, event, pipe, peer)
             }
             Event::Take(_, peer) => {
-                let items = &mut self.inboxes[at].pipes[pipe].items;
-                let router = &mut self.routers[at];
+                let items = &mut self.inboxes[router_at].pipes[pipe].items;
+                let router = &mut self.routers[router_at];
                 enter_take(router, &mut self.run, items, event, pipe, peer)
             }
             Event::Handle(_, peer) => {
                 let room = self.run.reserve(1);
-                let called = self.routers[at].handle_at(pipe, peer, room);
+                let called = self.routers[router_at].handle_at(pipe, peer, room);
                 log_answer(&mut self.run, event, called)
             }
-            Event::Decide(number) => self.ask_at(at, event, number, &Call::Decide),
-            Event::Advertise(number) => self.ask_at(at, event, number, &Call::Advertise),
-            Event::Offer(number) => self.offer_at(at, number),
+            Event::Decide(number) => self.ask_at(router_at, event, number, &Call::Decide),
+            Event::Advertise(number) => self.ask_at(router_at, event, number, &Call::Advertise),
+            Event::Offer(number) => self.offer_at(router_at, number),
         }
     }
 
@@ -184,8 +189,8 @@ impl<'a> State<'a> {
         requires { IsWhole (view_of self.old) }
         ensures { StepsTo result (view_of self.old) event.now (view_of self.new) }
     {
-        let (at, pipe) = self.places(event)?;
-        self.step_at(at, pipe, event)
+        let (router_at, pipe) = self.places(event)?;
+        self.step_at(router_at, pipe, event)
     }
 
     /// The router with this number, if the network has one.
@@ -195,7 +200,7 @@ impl<'a> State<'a> {
             (λ router. IsRouterOf (view_of self.now) number router.now) }
     {
         match self.place(number) {
-            Ok(at) => Some(&self.routers[at]),
+            Ok(router_at) => Some(&self.routers[router_at]),
             Err(_) => None,
         }
     }

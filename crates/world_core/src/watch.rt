@@ -1,8 +1,8 @@
 //! Who looks on while a world does events.
 
 ghost use Rattle.std.specs.Prelude.{ℕ, ◌≡◌, ◌++◌, [], List, Bool, true, false, OnOk, OnErr};
-ghost use Rattle.world_core.specs.declared.schedule.Event.{Event};
-ghost use Rattle.world_core.specs.Watching.{Adds};
+ghost use Rattle.world_core.specs.Views.{plain_world};
+ghost use Rattle.world_core.specs.Watching.{Sayings, Shown, SaysBehind};
 
 use crate::schedule::Event;
 use crate::world::World;
@@ -13,8 +13,11 @@ pub trait Watch {
     /// What was said so far.
     ghost said: { Self → List ℕ };
 
-    /// What may be said of an event that was done.
-    ghost says: { Event → List ℕ → Type 0 };
+    /// Which world and event it was shown last, before the event was tried.
+    ghost saw: { Self → Shown };
+
+    /// What may be said of an event that was done, by the worlds before and behind it.
+    ghost says: { Sayings };
 
     /// What is said behind a round that has this number, from 1, and did so many events.
     ghost says_of_round: { ℕ → ℕ → List ℕ };
@@ -25,12 +28,14 @@ pub trait Watch {
     /// Looks at a world before it tries an event. Nothing is said. Refused only for want of memory.
     fn before_event(&mut self, world: &World<'_>, event: &Event) -> Result<(), AllocError>
         ensures same { said self.new ≡ said self.old }
+        ensures saw { OnOk result (saw self.new (plain_world world.now) event.now) }
         ensures err { OnErr result (may_want ≡ true) };
 
     /// Looks at a world behind an event that was done, and says something of the event. Refused only for want of
     /// memory.
     fn behind_event(&mut self, world: &World<'_>, event: &Event) -> Result<(), AllocError>
-        ensures ok { OnOk result (Adds (said self.old) (said self.new) (says event.now)) }
+        ensures ok { OnOk result
+            (SaysBehind (saw self.old) says event.now (plain_world world.now) (said self.old) (said self.new)) }
         ensures err { OnErr result (may_want ≡ true) };
 
     /// Says something of a round that did so many events, which are 1 at least. Refused only for want of memory.
@@ -46,7 +51,9 @@ pub(crate) struct Unwatched;
 impl Watch for Unwatched {
     ghost said = { λ _. [] };
 
-    ghost says = { λ _ text. text ≡ [] };
+    ghost saw = { λ _ _ _. Unit {0} };
+
+    ghost says = { λ _ _ _ text. text ≡ [] };
 
     ghost says_of_round = { λ _ _. [] };
 

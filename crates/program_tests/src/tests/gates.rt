@@ -8,19 +8,18 @@ ghost use Rattle.worker_loop.specs.Script.{given_by};
 mod through;
 
 use net_text::read_network;
-use net_workers::{Chore, Gate, Limits, ScriptGate, run_net};
+use net_workers::{Chore, Gate, Limits, ScriptGate, run_journals, run_net};
 use prefix_lanes::Prefix;
 use ranked_policy::Network;
 use router_model::Command;
-use run_engine::run_gated;
 use std::alloc::{AllocError, Global};
 use std::sync::Wait;
 use std::sync::atomic::{AtomicU64, Ordering};
 use std::test::Fail;
 use std::thread;
 use std::thread::Threads;
-use text_engines::Watched;
-use thread_runs::new_gates;
+use thread_engines::RunOptions;
+use thread_engines::run::{network_output, settled_output};
 
 // Two routers and a link; router 1 originates 10.1.0.0/16. Pipes of one item, and of many.
 const NARROW: &str =
@@ -177,18 +176,22 @@ fn gate_meeting(rt: HostRuntime) -> Result<(), Fail> {
     Ok(())
 }
 
-// What a run in lockstep writes, and its status.
-fn in_lockstep<R: Threads + Wait + Sync>(
+// Whether what is printed of a run in lockstep is the routes of both.
+fn settles_in_lockstep<R: Threads + Wait + Sync>(
     rt: &R,
     alloc: Global,
     pair: &Pair,
-) -> Result<(Vec<u8>, Option<u8>), AllocError> {
+) -> Result<bool, AllocError> {
     let asked = new_asked();
     let gates = two_gates(alloc, &asked, Holds::Each, pair.prefix)?;
-    let mut writer = Watched::new(Vec::new(alloc));
     let limits = Limits { turns: 1000 };
-    let status = run_gated(rt, alloc, &pair.network, gates, limits, 1, &mut writer).ok();
-    Ok((writer.into_inner(), status))
+    match run_journals(rt, alloc, &pair.network, gates, limits) {
+        Ok(journals) => {
+            let (text, status) = settled_output(alloc, &pair.network, &journals.collector, 1)?;
+            Ok((text.as_slice(), status) == (BOTH.as_bytes(), 0))
+        }
+        Err(_) => Ok(false),
+    }
 }
 
 // Workers in lockstep take what their peers put, and a snapshot settles.
@@ -196,8 +199,7 @@ fn in_lockstep<R: Threads + Wait + Sync>(
 fn gate_lockstep(rt: HostRuntime) -> Result<(), Fail> {
     for text in [WIDE, NARROW] {
         let pair = read_pair(rt.alloc(), text)?;
-        let (text, status) = in_lockstep(&rt, rt.alloc(), &pair)?;
-        assert!(rt; (text.as_slice(), status) == (BOTH.as_bytes(), Some(0)));
+        assert!(rt; settles_in_lockstep(&rt, rt.alloc(), &pair)?);
     }
     Ok(())
 }
@@ -205,17 +207,18 @@ fn gate_lockstep(rt: HostRuntime) -> Result<(), Fail> {
 // How often each network is run.
 const RUNS: u32 = 10;
 
-// Whether a run at the word of the gates of `bgpnet run`, with one snapshot, writes the routes of both.
+// Whether `bgpnet run`, with one snapshot, prints the routes of both.
 fn settles<R: Threads + Wait + Sync>(
     rt: &R,
     alloc: Global,
     network: &Network,
 ) -> Result<bool, AllocError> {
-    let gates = new_gates(alloc, network, 1000, 1)?;
-    let mut writer = Watched::new(Vec::new(alloc));
-    let limits = Limits { turns: 2000 };
-    let status = run_gated(rt, alloc, network, gates, limits, 1, &mut writer).ok();
-    Ok((writer.into_inner().as_slice(), status) == (BOTH.as_bytes(), Some(0)))
+    let options = RunOptions {
+        turns: 2000,
+        snapshots: 1,
+    };
+    let (text, status) = network_output(rt, alloc, &options, network)?;
+    Ok((text.as_slice(), status) == (BOTH.as_bytes(), 0))
 }
 
 // A worker without work waits for the other, so that the snapshot finds both at rest, on a busy machine too.

@@ -2,10 +2,10 @@
 
 use net_workers::ScriptGate;
 use play_engine::laws::{cut_prints_one_text, play_prints_one_text, why_prints_one_text};
-use record_engine::laws::records_play_back;
 use stable_runs::laws::{printed_are_listed, settled_are_listed};
 use stable_search::laws::{none_without_origin, stable_assignments_are_counted};
 use text_engines::laws::{check_prints_one_text, decode_prints_one_text};
+use thread_engines::laws::records_play_back;
 use trace_engine::laws::{traces_play_back, traces_spell_their_runs};
 use wheel_runs::laws::{routers_change_seldom, safe_settle_in_one};
 use why_engine::laws::each_router_has_one_text;

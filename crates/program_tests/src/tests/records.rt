@@ -8,7 +8,6 @@ use net_text::read_network;
 use net_workers::{Chore, Limits, Record, ScriptGate, run_net};
 use prefix_lanes::Prefix;
 use ranked_policy::Network;
-use record_engine::record_output;
 use router_core::Router;
 use router_model::{Command, Stepped};
 use std::alloc::{AllocError, Global};
@@ -16,7 +15,8 @@ use std::sync::Wait;
 use std::test::Fail;
 use std::thread::Threads;
 use text_engines::{INPUT_LIMIT, put_limit};
-use thread_runs::new_gates;
+use thread_engines::record::record_output;
+use thread_engines::{RunOptions, run_network};
 use world_core::World;
 
 // Two routers and a link; and DISAGREE, where 2 and 3 prefer the way through each other.
@@ -88,9 +88,12 @@ fn run_plays_back<R: Threads + Wait + Sync>(
     alloc: Global,
     network: &Network,
 ) -> Result<bool, AllocError> {
-    let gates = new_gates(alloc, network, 100, 5)?;
-    match run_net(rt, alloc, network, gates, Limits { turns: 1000 }) {
-        Ok(record) => plays_back(alloc, network, &record),
+    let options = RunOptions {
+        turns: 1000,
+        snapshots: 5,
+    };
+    match run_network(rt, alloc, &options, network) {
+        Ok(journals) => plays_back(alloc, network, &journals.gather(alloc)?),
         Err(_) => Ok(false),
     }
 }

@@ -9,7 +9,7 @@ use std::sync::Wait;
 use std::test::Fail;
 use std::thread::Threads;
 use text_engines::Watched;
-use thread_runs::RunOptions;
+use thread_engines::RunOptions;
 
 // Words whose task starts no thread, what is read, what is written for it, and the status.
 struct Row {

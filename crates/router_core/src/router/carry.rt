@@ -23,7 +23,7 @@ use bgp_codec::Message;
 use ranked_policy::Asn;
 use rib_tables::Rib;
 use router_model::{RouterError, Stepped};
-use router_side::{Brought, SideDraft, SideEnd};
+use router_side::{Brought, Side, SideDraft};
 use run_model::GREATEST_STAMP;
 use session_fsm::FsmEvent;
 use snap_marker::MarkState;
@@ -43,7 +43,7 @@ pub(super) enum SessionEvent {
 }
 
 /// The draft of a side for such an event.
-pub(super) fn drafted(event: SessionEvent, end: &SideEnd, own_open: &Message) -> SideDraft
+pub(super) fn drafted(event: SessionEvent, end: &Side, own_open: &Message) -> SideDraft
     ensures { draft own_open.now NoMessage result ≡ draft_by event own_open.now (side end.now) }
 {
     match event {
@@ -55,7 +55,7 @@ pub(super) fn drafted(event: SessionEvent, end: &SideEnd, own_open: &Message) ->
 }
 
 /// The incarnation in which the session is Established, if it is.
-fn standing(end: &SideEnd) -> Option<u32>
+fn standing(end: &Side) -> Option<u32>
     ensures { result ≡ standing (side end.now) }
 {
     if end.is_up() { Some(end.epoch()) } else { None }
@@ -65,14 +65,14 @@ fn standing(end: &SideEnd) -> Option<u32>
 /// takes no memory.
 pub(super) fn carry(
     alloc: Global,
-    end: &mut SideEnd,
+    end: &mut Side,
     tables: &mut Rib<'_>,
-    at: usize,
+    peer_at: usize,
     peer: Asn,
     own_open: &Message,
     made: &SideDraft,
 )
-    requires stands { slice_get (peers tables.old.net tables.old.router) at ≡ Some peer }
+    requires stands { slice_get (peers tables.old.net tables.old.router) peer_at ≡ Some peer }
     requires own { (w : widths.Width) → IsSayable w own_open.now }
     requires room { HasRoom own_open.now None made.now end.old }
     ensures side { side end.new ≡ carried NoMessage (side end.old) (draft own_open.now NoMessage made.now) }
@@ -81,7 +81,7 @@ pub(super) fn carry(
     let was = standing(end);
     end.commit(alloc, own_open, made);
     let now = standing(end);
-    follow(tables, at, peer, was, now);
+    follow(tables, peer_at, peer, was, now);
 }
 
 /// Carries out the draft of the message or fault in front, for which there is room. The tables follow the session. It
@@ -91,12 +91,12 @@ pub(super) fn carry_front(
     own_open: &Message,
     given: Brought,
     made: &SideDraft,
-    end: &mut SideEnd,
+    end: &mut Side,
     tables: &mut Rib<'_>,
-    at: usize,
+    peer_at: usize,
     peer: Asn,
 )
-    requires stands { slice_get (peers tables.old.net tables.old.router) at ≡ Some peer }
+    requires stands { slice_get (peers tables.old.net tables.old.router) peer_at ≡ Some peer }
     requires own { (w : widths.Width) → IsSayable w own_open.now }
     requires told { IsSayableWhere (side end.old).width (told_of (hand given)) }
     requires waits { is_waiting (side end.old).held ≡ true }
@@ -109,7 +109,7 @@ pub(super) fn carry_front(
     let was = standing(end);
     end.commit_front(alloc, own_open, given, made);
     let now = standing(end);
-    follow(tables, at, peer, was, now);
+    follow(tables, peer_at, peer, was, now);
 }
 
 /// Loses the unfinished recording, if a session leaves Established in an incarnation. It takes no memory.
@@ -129,12 +129,12 @@ impl Router<'_> {
     pub(super) fn carry_out(
         &mut self,
         peer: Asn,
-        at: usize,
+        peer_at: usize,
         made: &SideDraft,
         stamp: u64,
         room: Result<(), AllocError>,
     ) -> Result<Stepped, RouterError>
-        requires place { IsFound self.old.peers peer at }
+        requires place { IsFound self.old.peers peer peer_at }
         requires fresh { made.now.overflows ≡ false
             → KeepsFresh (sides_of self.old peer) NoMessage (draft self.old.own_open NoMessage made.now) }
         ensures carries { Carries result self.old peer NoMessage (draft self.old.own_open NoMessage made.now)
@@ -152,11 +152,19 @@ impl Router<'_> {
         room?;
         let alloc = *self.peers.allocator();
         let nothing = Brought::Nothing;
-        let end = &mut self.peers[at].end;
+        let end = &mut self.peers[peer_at].end;
         if end.reserve(&self.own_open, &nothing, made).is_err() {
             return Err(RouterError::Memory);
         }
-        carry(alloc, end, &mut self.tables, at, peer, &self.own_open, made);
+        carry(
+            alloc,
+            end,
+            &mut self.tables,
+            peer_at,
+            peer,
+            &self.own_open,
+            made,
+        );
         close(&mut self.marks, peer, made.left);
         self.stamp = stamp;
         Ok(Stepped::Did)

@@ -75,13 +75,13 @@ impl Router<'_> {
             return Next::Nobody;
         }
         let mut blocked = None;
-        for at in 0..self.peers.len() {
-            let peer = &self.peers[at];
-            let Some(found) = self.tables.waiting_at(at, peer.number) else {
+        for peer_at in 0..self.peers.len() {
+            let peer = &self.peers[peer_at];
+            let Some(found) = self.tables.waiting_at(peer_at, peer.number) else {
                 continue;
             };
             if peer.end.octets_waiting() < OUTBOX_LIMIT {
-                return Next::Peer(at, found.0, found.1);
+                return Next::Peer(peer_at, found.0, found.1);
             }
             blocked = blocked.or(Some(peer.number));
         }
@@ -116,35 +116,35 @@ impl Router<'_> {
         match self.next_to_tell() {
             Next::Nobody => Ok(Stepped::Nothing),
             Next::Blocked(peer) => Err(RouterError::Blocked { peer }),
-            Next::Peer(at, place, prefix) => self.tell(at, place, &prefix, room),
+            Next::Peer(peer_at, prefix_at, prefix) => self.tell(peer_at, prefix_at, &prefix, room),
         }
     }
 
     // Tells the kept path of the prefix at a place of the network to the peer at a place.
     fn tell(
         &mut self,
-        at: usize,
-        place: usize,
+        peer_at: usize,
+        prefix_at: usize,
         prefix: &Prefix,
         room: Result<(), AllocError>,
     ) -> Result<Stepped, RouterError>
-        requires may { MayTell self.old at prefix.now }
-        requires named { IsNamedAt self.old.net prefix.now place }
-        ensures tells { (v : ℕ) → IsAt self.old.peers v at → Tells result self.old v prefix.now self.new }
+        requires may { MayTell self.old peer_at prefix.now }
+        requires named { IsNamedAt self.old.net prefix.now prefix_at }
+        ensures tells { (v : ℕ) → IsAt self.old.peers v peer_at → Tells result self.old v prefix.now self.new }
         ensures full { NeedsRoom result room }
         ensures same { IsSame self.old self.new }
     {
         let stamp = next_stamp_with_room(self.stamp, room)?;
         let alloc = *self.peers.allocator();
-        let path = self.tables.path_at(place, prefix);
+        let path = self.tables.path_at(prefix_at, prefix);
         let Ok(route) = path_to_tell(alloc, self.network, self.number, prefix, path) else {
             return Err(RouterError::Memory);
         };
-        let Peer { number, end } = &mut self.peers[at];
+        let Peer { number, end } = &mut self.peers[peer_at];
         let Ok(()) = end.reserve_path(&route) else {
             return Err(RouterError::Memory);
         };
-        let Ok(()) = self.tables.tell_at(at, *number, place, prefix) else {
+        let Ok(()) = self.tables.tell_at(peer_at, *number, prefix_at, prefix) else {
             return Err(RouterError::Memory);
         };
         end.tell_path(&route);

@@ -71,12 +71,12 @@ impl Router<'_> {
         ensures same { IsSame self.old self.new }
     {
         sessions_keep_fresh();
-        let Some(at) = self.find(peer) else {
+        let Some(peer_at) = self.find(peer) else {
             return Err(RouterError::NoSuchPeer);
         };
-        let made = drafted(event, &self.peers[at].end, &self.own_open);
+        let made = drafted(event, &self.peers[peer_at].end, &self.own_open);
         let stamp = self.stamp + 1;
-        self.carry_out(peer, at, &made, stamp, room)
+        self.carry_out(peer, peer_at, &made, stamp, room)
     }
 
     // Originates a prefix from now on.

@@ -24,7 +24,7 @@ use rib_tables::Rib;
 use rib_tables::laws::the_word_follows;
 use router_model::{RouterError, Stepped};
 use router_side::laws::{updates_are_acted_on, what_comes_keeps_fresh};
-use router_side::{Brought, SideEnd, opened};
+use router_side::{Brought, Side, opened};
 use snap_marker::MarkState;
 use std::alloc::{AllocError, Global};
 
@@ -56,12 +56,12 @@ fn copy_for(
 // Lets the tables take the UPDATE that is acted on.
 fn hear(
     tables: &mut Rib<'_>,
-    at: usize,
+    peer_at: usize,
     peer: Asn,
     acts: bool,
     given: &Brought,
 ) -> Result<(), AllocError>
-    requires { slice_get (peers tables.old.net tables.old.router) at ≡ Some peer }
+    requires { slice_get (peers tables.old.net tables.old.router) peer_at ≡ Some peer }
     ensures ok { OnOk result (Hears tables.old tables.new peer (update_acted acts (hand given.now))) }
     ensures err { OnErr result (tables.new ≡ tables.old) }
 {
@@ -69,7 +69,7 @@ fn hear(
         return Ok(());
     }
     match given {
-        Brought::Update(update) => tables.hear_at(at, peer, update),
+        Brought::Update(update) => tables.hear_at(peer_at, peer, update),
         Brought::Nothing | Brought::Fault(_) => Ok(()),
     }
 }
@@ -94,14 +94,14 @@ fn record(marks: &mut MarkState, peer: Asn, left: Option<u32>, copy: Option<Upda
 fn handle_front(
     alloc: Global,
     rule: &Rule,
-    end: &mut SideEnd,
+    end: &mut Side,
     tables: &mut Rib<'_>,
     marks: &mut MarkState,
     own_open: &Message,
-    at: usize,
+    peer_at: usize,
     peer: Asn,
 ) -> Result<(), AllocError>
-    requires stands { slice_get (peers tables.old.net tables.old.router) at ≡ Some peer }
+    requires stands { slice_get (peers tables.old.net tables.old.router) peer_at ≡ Some peer }
     requires own { (w : widths.Width) → IsSayable w own_open.now }
     requires rule { (own : ℕ) × (rule.now ≡ naming (side end.old).width own peer) }
     requires waits { is_waiting (side end.old).held ≡ true }
@@ -121,14 +121,14 @@ fn handle_front(
         if let Some(route) = end.path_in_front(alloc, peer)? {
             end.reserve_acting()?;
             let (prefix, path) = route.prefix_and_path();
-            let Ok(()) = tables.hear_path_at(at, peer, prefix, path) else {
+            let Ok(()) = tables.hear_path_at(peer_at, peer, prefix, path) else {
                 return Err(AllocError);
             };
             end.act_on_front();
             return Ok(());
         }
     }
-    handle_by_draft(alloc, rule, end, tables, marks, own_open, at, peer)
+    handle_by_draft(alloc, rule, end, tables, marks, own_open, peer_at, peer)
 }
 
 // Handles any message or fault: it is read, and its draft is made, given room, and carried out. A draft is large, and a
@@ -137,14 +137,14 @@ fn handle_front(
 fn handle_by_draft(
     alloc: Global,
     rule: &Rule,
-    end: &mut SideEnd,
+    end: &mut Side,
     tables: &mut Rib<'_>,
     marks: &mut MarkState,
     own_open: &Message,
-    at: usize,
+    peer_at: usize,
     peer: Asn,
 ) -> Result<(), AllocError>
-    requires stands { slice_get (peers tables.old.net tables.old.router) at ≡ Some peer }
+    requires stands { slice_get (peers tables.old.net tables.old.router) peer_at ≡ Some peer }
     requires own { (w : widths.Width) → IsSayable w own_open.now }
     requires rule { (own : ℕ) × (rule.now ≡ naming (side end.old).width own peer) }
     requires waits { is_waiting (side end.old).held ≡ true }
@@ -163,9 +163,9 @@ fn handle_by_draft(
     let made = end.draft_message(own_open, &given, event);
     end.reserve(own_open, &given, &made)?;
     let copy = copy_for(alloc, marks, peer, made.acts, &given)?;
-    hear(tables, at, peer, made.acts, &given)?;
+    hear(tables, peer_at, peer, made.acts, &given)?;
     record(marks, peer, made.left, copy);
-    carry_front(alloc, own_open, given, &made, end, tables, at, peer);
+    carry_front(alloc, own_open, given, &made, end, tables, peer_at, peer);
     Ok(())
 }
 
@@ -194,10 +194,10 @@ impl Router<'_> {
         ensures full { NeedsRoom result room }
         ensures same { IsSame self.old self.new }
     {
-        let Some(at) = self.find(peer) else {
+        let Some(peer_at) = self.find(peer) else {
             return Err(RouterError::NoSuchPeer);
         };
-        self.handle_at(at, peer, room)
+        self.handle_at(peer_at, peer, room)
     }
 
     /// Handles the message or fault of the peer at a place that waits in front, as [`Router::handle`] does.
@@ -207,19 +207,19 @@ impl Router<'_> {
     /// with [`RouterError::Memory`] if a growth is refused; then all is as it was.
     pub fn handle_at(
         &mut self,
-        at: usize,
+        peer_at: usize,
         peer: Asn,
         room: Result<(), AllocError>,
     ) -> Result<Stepped, RouterError>
-        requires stands { slice_get (peers self.old.net self.old.number) at ≡ Some peer }
+        requires stands { slice_get (peers self.old.net self.old.number) peer_at ≡ Some peer }
         ensures answers { Answers result self.old (Handle peer) self.new }
         ensures full { NeedsRoom result room }
         ensures same { IsSame self.old self.new }
     {
         what_comes_keeps_fresh();
         the_word_follows();
-        self.peer_stands_at(at, peer);
-        if !self.peers[at].end.is_waiting() {
+        self.peer_stands_at(peer_at, peer);
+        if !self.peers[peer_at].end.is_waiting() {
             return Ok(Stepped::Nothing);
         }
         let stamp = next_stamp_with_room(self.stamp, room)?;
@@ -229,7 +229,7 @@ impl Router<'_> {
             peer: Some(peer),
             own: Some(self.number),
         };
-        let end = &mut self.peers[at].end;
+        let end = &mut self.peers[peer_at].end;
         match handle_front(
             alloc,
             &rule,
@@ -237,7 +237,7 @@ impl Router<'_> {
             &mut self.tables,
             &mut self.marks,
             &self.own_open,
-            at,
+            peer_at,
             peer,
         ) {
             Ok(()) => {

@@ -17,8 +17,8 @@ impl Router<'_> {
         ensures { MatchOption result (linked self.now.net self.now.number peer ≡ false)
             (λ read. IfOk read (λ told. history told.items ≡ (sides_of self.now peer).acted)) }
     {
-        let at = self.find(peer)?;
-        Some(self.peers[at].end.acted(alloc))
+        let peer_at = self.find(peer)?;
+        Some(self.peers[peer_at].end.acted(alloc))
     }
 
     /// The UPDATEs that were sent to a peer, in their order, each once with its incarnation. `None` if no link leads to
@@ -27,7 +27,7 @@ impl Router<'_> {
         ensures { MatchOption result (linked self.now.net self.now.number peer ≡ false)
             (λ read. IfOk read (λ told. history told.items ≡ (sides_of self.now peer).sent)) }
     {
-        let at = self.find(peer)?;
-        Some(self.peers[at].end.sent(alloc))
+        let peer_at = self.find(peer)?;
+        Some(self.peers[peer_at].end.sent(alloc))
     }
 }

@@ -20,27 +20,27 @@ impl Router<'_> {
     pub fn next_item(&self, peer: Asn) -> Result<Option<Item>, RouterError>
         ensures { ShowsNext result self.now peer }
     {
-        let Some(at) = self.find(peer) else {
+        let Some(peer_at) = self.find(peer) else {
             return Err(RouterError::NoSuchPeer);
         };
-        self.next_item_at(at, peer)
+        self.next_item_at(peer_at, peer)
     }
 
     /// A copy of the item that is put next towards the peer at a place, as [`Router::next_item`] answers it. It changes
     /// nothing.
     ///
     /// Refused with [`RouterError::StampEnd`], and with [`RouterError::Memory`] if the copy is refused.
-    pub fn next_item_at(&self, at: usize, peer: Asn) -> Result<Option<Item>, RouterError>
-        requires stands { slice_get (peers self.now.net self.now.number) at ≡ Some peer }
+    pub fn next_item_at(&self, peer_at: usize, peer: Asn) -> Result<Option<Item>, RouterError>
+        requires stands { slice_get (peers self.now.net self.now.number) peer_at ≡ Some peer }
         ensures { ShowsNext result self.now peer }
     {
-        self.peer_stands_at(at, peer);
-        if !self.peers[at].end.has_item() {
+        self.peer_stands_at(peer_at, peer);
+        if !self.peers[peer_at].end.has_item() {
             return Ok(None);
         }
         let stamp = next_stamp(self.stamp)?;
         let cut = self.network.settings().cut;
-        match self.peers[at].end.next_item(cut) {
+        match self.peers[peer_at].end.next_item(cut) {
             Ok(None) => Ok(None),
             Ok(Some(what)) => Ok(Some(Item { stamp, what })),
             Err(_) => Err(RouterError::Memory),
@@ -54,21 +54,21 @@ impl Router<'_> {
         ensures same { IsSame self.old self.new }
     {
         let _ = &self.peers;
-        let at = self.find(peer).unwrap();
-        self.item_put_at(at, peer);
+        let peer_at = self.find(peer).unwrap();
+        self.item_put_at(peer_at, peer);
     }
 
     /// Puts the item that `next_item_at` answers, towards the peer at a place. It takes no memory, and cannot be
     /// refused.
-    pub fn item_put_at(&mut self, at: usize, peer: Asn)
-        requires stands { slice_get (peers self.old.net self.old.number) at ≡ Some peer }
+    pub fn item_put_at(&mut self, peer_at: usize, peer: Asn)
+        requires stands { slice_get (peers self.old.net self.old.number) peer_at ≡ Some peer }
         requires next { HasNext self.old peer }
         ensures answers { Answers (Ok Did) self.old (Put peer) self.new }
         ensures same { IsSame self.old self.new }
     {
-        self.peer_stands_at(at, peer);
+        self.peer_stands_at(peer_at, peer);
         let cut = self.network.settings().cut;
-        self.peers[at].end.item_put(cut);
+        self.peers[peer_at].end.item_put(cut);
         self.stamp += 1;
     }
 }

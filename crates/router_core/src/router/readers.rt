@@ -34,8 +34,8 @@ impl Router<'_> {
     pub fn state(&self, peer: Asn) -> Option<State>
         ensures { result ≡ of_peer self.now peer (λ side. side.session.state) }
     {
-        let at = self.find(peer)?;
-        Some(self.peers[at].end.state())
+        let peer_at = self.find(peer)?;
+        Some(self.peers[peer_at].end.state())
     }
 
     /// The incarnation of the link to a peer: the last number that the router dialled, 0 at first. `None` if no link
@@ -43,16 +43,16 @@ impl Router<'_> {
     pub fn epoch(&self, peer: Asn) -> Option<u32>
         ensures { result ≡ of_peer self.now peer (λ side. side.link.epoch) }
     {
-        let at = self.find(peer)?;
-        Some(self.peers[at].end.epoch())
+        let peer_at = self.find(peer)?;
+        Some(self.peers[peer_at].end.epoch())
     }
 
     /// How many octets of messages wait to be put towards a peer. `None` if no link leads to the peer.
     pub fn octets_waiting(&self, peer: Asn) -> Option<usize>
         ensures { result ≡ of_peer self.now peer (λ side. octets_waiting side.outbox) }
     {
-        let at = self.find(peer)?;
-        Some(self.peers[at].end.octets_waiting())
+        let peer_at = self.find(peer)?;
+        Some(self.peers[peer_at].end.octets_waiting())
     }
 
     /// The message or fault of a peer that is handled next. `None` if no link leads to the peer, or if neither waits.
@@ -65,8 +65,8 @@ impl Router<'_> {
         ensures { MatchOption result (has_front self.now peer ≡ false)
             (λ read. (has_front self.now peer ≡ true) × IfOk read (λ front. front ≡ front_of self.now peer)) }
     {
-        let at = self.find(peer)?;
-        let end = &self.peers[at].end;
+        let peer_at = self.find(peer)?;
+        let end = &self.peers[peer_at].end;
         if !end.is_waiting() {
             return None;
         }
@@ -120,7 +120,7 @@ impl Router<'_> {
         ensures { IsToldNext self.now result }
     {
         match self.next_to_tell() {
-            Next::Peer(at, _, prefix) => Some((self.peers[at].number, prefix)),
+            Next::Peer(peer_at, _, prefix) => Some((self.peers[peer_at].number, prefix)),
             Next::Blocked(_) | Next::Nobody => None,
         }
     }

@@ -22,7 +22,7 @@ use ranked_policy::{Asn, Origin, Path};
 use rib_tables::Rib;
 use router_model::laws::linked_routers_are_peers;
 use router_model::{RouterError, Stepped};
-use router_side::SideEnd;
+use router_side::Side;
 use snap_marker::{Channel, KeptPath, Part};
 use std::alloc::{AllocError, Global};
 
@@ -32,8 +32,8 @@ fn kept_paths(alloc: Global, origins: &[Origin], tables: &Rib) -> Result<Vec<Kep
     ensures { IfOk result (λ kept. kept.items ≡ paths_of origins.now tables.now.kept) }
 {
     let mut kept = Vec::with_capacity(alloc, origins.len())?;
-    for (at, origin) in origins.iter().enumerate() {
-        let path = Path::from_slice(alloc, tables.path_at(at, &origin.prefix))?;
+    for (prefix_at, origin) in origins.iter().enumerate() {
+        let path = Path::from_slice(alloc, tables.path_at(prefix_at, &origin.prefix))?;
         kept.push(KeptPath {
             prefix: origin.prefix,
             path,
@@ -43,11 +43,11 @@ fn kept_paths(alloc: Global, origins: &[Origin], tables: &Rib) -> Result<Vec<Kep
 }
 
 // Whether the prefix at a place of the network is originated.
-fn is_own(tables: &Rib, at: usize, prefix: &Prefix) -> bool
-    requires { IsNamedAt tables.now.net prefix.now at }
+fn is_own(tables: &Rib, prefix_at: usize, prefix: &Prefix) -> bool
+    requires { IsNamedAt tables.now.net prefix.now prefix_at }
     ensures { result ≡ lists tables.now.originated prefix.now }
 {
-    tables.is_originated_at(at, prefix)
+    tables.is_originated_at(prefix_at, prefix)
 }
 
 // The prefixes of the network that are originated.
@@ -56,8 +56,8 @@ fn originated(alloc: Global, origins: &[Origin], tables: &Rib) -> Result<Vec<Pre
     ensures { IfOk result (λ own. own.items ≡ own_of origins.now tables.now.originated) }
 {
     let mut own = Vec::new(alloc);
-    for (at, origin) in origins.iter().enumerate() {
-        if is_own(tables, at, &origin.prefix) {
+    for (prefix_at, origin) in origins.iter().enumerate() {
+        if is_own(tables, prefix_at, &origin.prefix) {
             own.push(origin.prefix)?;
         }
     }
@@ -134,7 +134,7 @@ fn mark_all(peers: &mut Vec<Peer>, number: u32)
 }
 
 // Whether a marker is heeded: in Established alone, in the incarnation that the end joined.
-fn heeds(end: &SideEnd, epoch: u32) -> bool
+fn heeds(end: &Side, epoch: u32) -> bool
     ensures { result ≡ (is_up (side end.now) && uses (side end.now).link epoch) }
 {
     end.is_up() && end.uses(epoch)
@@ -246,20 +246,20 @@ impl Router<'_> {
     pub(super) fn take_mark(
         &mut self,
         peer: Asn,
-        at: usize,
+        peer_at: usize,
         epoch: u32,
         number: u32,
         room: Result<(), AllocError>,
         stamp: u64,
     ) -> Result<Stepped, RouterError>
-        requires place { IsFound self.old.peers peer at }
+        requires place { IsFound self.old.peers peer peer_at }
         requires stamp { stamp ≤ GREATEST_STAMP }
         ensures takes { TakesMark result self.old peer epoch number stamp self.new }
         ensures full { NeedsRoom result room }
         ensures same { IsSame self.old self.new }
     {
         room?;
-        if !heeds(&self.peers[at].end, epoch) {
+        if !heeds(&self.peers[peer_at].end, epoch) {
             self.stamp = stamp;
             return Ok(Stepped::Did);
         }

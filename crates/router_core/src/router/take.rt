@@ -27,47 +27,32 @@ impl Router<'_> {
         ensures answers { Answers result self.old (Take peer item.now.stamp item.now.what) self.new }
         ensures same { IsSame self.old self.new }
     {
-        self.take(peer, item, Ok(()))
-    }
-
-    /// Takes the next item of a peer as [`Router::take_item`] does, and is refused as that is.
-    ///
-    /// `room` says whether the caller has room for the event if the call steps. Without room, a step is refused with
-    /// [`RouterError::Memory`]; any other answer is as it would be.
-    pub fn take(
-        &mut self,
-        peer: Asn,
-        item: &Item,
-        room: Result<(), AllocError>,
-    ) -> Result<Stepped, RouterError>
-        ensures answers { Answers result self.old (Take peer item.now.stamp item.now.what) self.new }
-        ensures full { NeedsRoom result room }
-        ensures same { IsSame self.old self.new }
-    {
-        let Some(at) = self.find(peer) else {
+        let Some(peer_at) = self.find(peer) else {
             return Err(RouterError::NoSuchPeer);
         };
-        self.take_at(at, peer, item, room)
+        self.take_at(peer_at, peer, item, Ok(()))
     }
 
-    /// Takes the next item of the peer at a place as [`Router::take`] does.
+    /// Takes the next item of the peer at a place as [`Router::take_item`] does.
     ///
-    /// Refused with [`RouterError::Held`], with [`RouterError::StampEnd`], with [`RouterError::EpochEnd`], and with
-    /// [`RouterError::Memory`] if a growth is refused or the caller has no room; then all is as it was.
+    /// `room` says whether the caller has room for the event if the call steps. Without room, a step is refused with
+    /// [`RouterError::Memory`]; any other answer is as it would be. Refused besides with [`RouterError::Held`], with
+    /// [`RouterError::StampEnd`], with [`RouterError::EpochEnd`], and with [`RouterError::Memory`] if a growth is
+    /// refused; then all is as it was.
     pub fn take_at(
         &mut self,
-        at: usize,
+        peer_at: usize,
         peer: Asn,
         item: &Item,
         room: Result<(), AllocError>,
     ) -> Result<Stepped, RouterError>
-        requires stands { slice_get (peers self.old.net self.old.number) at ≡ Some peer }
+        requires stands { slice_get (peers self.old.net self.old.number) peer_at ≡ Some peer }
         ensures answers { Answers result self.old (Take peer item.now.stamp item.now.what) self.new }
         ensures full { NeedsRoom result room }
         ensures same { IsSame self.old self.new }
     {
-        self.peer_stands_at(at, peer);
-        if self.peers[at].end.is_waiting() {
+        self.peer_stands_at(peer_at, peer);
+        if self.peers[peer_at].end.is_waiting() {
             return Err(RouterError::Held { peer });
         }
         let stamp = self.stamp.max(item.stamp).saturating_add(1);
@@ -75,15 +60,19 @@ impl Router<'_> {
             return Err(RouterError::StampEnd);
         }
         match &item.what {
-            What::Dial(number) => self.take_sign(peer, at, Sign::Dial(*number), stamp, room),
-            What::Shut(number) => self.take_sign(peer, at, Sign::Shut(*number), stamp, room),
+            What::Dial(number) => self.take_sign(peer, peer_at, Sign::Dial(*number), stamp, room),
+            What::Shut(number) => self.take_sign(peer, peer_at, Sign::Shut(*number), stamp, room),
             What::Piece(epoch, octets) => {
                 room?;
-                self.peers[at].end.take_piece(*epoch, octets.as_slice());
+                self.peers[peer_at]
+                    .end
+                    .take_piece(*epoch, octets.as_slice());
                 self.stamp = stamp;
                 Ok(Stepped::Did)
             }
-            What::Mark(epoch, number) => self.take_mark(peer, at, *epoch, *number, room, stamp),
+            What::Mark(epoch, number) => self.take_mark(
+                peer, peer_at, *epoch, *number, room, stamp,
+            ),
         }
     }
 
@@ -93,18 +82,18 @@ impl Router<'_> {
     fn take_sign(
         &mut self,
         peer: Asn,
-        at: usize,
+        peer_at: usize,
         sign: Sign,
         stamp: u64,
         room: Result<(), AllocError>,
     ) -> Result<Stepped, RouterError>
-        requires { IsFound self.old.peers peer at }
+        requires { IsFound self.old.peers peer peer_at }
         ensures takes { TakesSign result self.old peer sign stamp self.new }
         ensures full { NeedsRoom result room }
         ensures same { IsSame self.old self.new }
     {
         what_comes_keeps_fresh();
-        let made = self.peers[at].end.draft_sign(&self.own_open, sign);
-        self.carry_out(peer, at, &made, stamp, room)
+        let made = self.peers[peer_at].end.draft_sign(&self.own_open, sign);
+        self.carry_out(peer, peer_at, &made, stamp, room)
     }
 }

@@ -77,19 +77,27 @@ fn count_down_all(peers: &mut Vec<Peer>)
 
 impl Router<'_> {
     // Carries out the draft of the side at a place, for which there is room. The stamp stays.
-    fn move_side(&mut self, event: SessionEvent, at: usize, made: &SideDraft)
-        requires below { at < length self.old.peers }
+    fn move_side(&mut self, event: SessionEvent, peer_at: usize, made: &SideDraft)
+        requires below { peer_at < length self.old.peers }
         requires ready { (d : peer.Peer)
-            → IsReady self.old.own_open (draft_by event self.old.own_open) (get_or self.old.peers at d) made.now }
+            → IsReady self.old.own_open (draft_by event self.old.own_open) (get_or self.old.peers peer_at d) made.now }
         requires fits { (d : peer.Peer)
-            → (draft_by event self.old.own_open (side (get_or self.old.peers at d).end)).overflows ≡ false }
-        ensures { MovesSide self.old at (draft_by event self.old.own_open) self.new }
+            → (draft_by event self.old.own_open (side (get_or self.old.peers peer_at d).end)).overflows ≡ false }
+        ensures { MovesSide self.old peer_at (draft_by event self.old.own_open) self.new }
     {
         sessions_keep_fresh();
         let alloc = *self.peers.allocator();
-        let peer = self.peers[at].number;
-        let end = &mut self.peers[at].end;
-        carry(alloc, end, &mut self.tables, at, peer, &self.own_open, made);
+        let peer = self.peers[peer_at].number;
+        let end = &mut self.peers[peer_at].end;
+        carry(
+            alloc,
+            end,
+            &mut self.tables,
+            peer_at,
+            peer,
+            &self.own_open,
+            made,
+        );
         close(&mut self.marks, peer, made.left);
     }
 
@@ -99,8 +107,8 @@ impl Router<'_> {
         requires fits { overflow_in (draft_by event self.old.own_open) self.old.peers ≡ false }
         ensures { MovesAll self.old (draft_by event self.old.own_open) self.new }
     {
-        for at in 0..made.len() {
-            self.move_side(event, at, &made[at]);
+        for peer_at in 0..made.len() {
+            self.move_side(event, peer_at, &made[peer_at]);
         }
     }
 

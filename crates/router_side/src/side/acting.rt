@@ -6,14 +6,14 @@ ghost use Rattle.bgp_framing.specs.Held.{is_waiting};
 ghost use Rattle.router_model.specs.Sides.{carried, is_up, without_front, HasUpdate};
 ghost use Rattle.router_side.specs.SideOf.{side, acting, IsInFront, HasRoomToAct, KeepsRoom};
 
-use super::SideEnd;
+use super::Side;
 use bgp_codec::laws::header_is_its_front;
 use bgp_framing::Next;
 use bgp_values::MESSAGE_LIMIT;
 use session_fsm::FsmEvent;
 use std::alloc::AllocError;
 
-impl SideEnd {
+impl Side {
     /// Makes room for the UPDATE in front to be acted on. It is refused only for want of memory, and the side stays
     /// as it was, with the room that it had.
     pub fn reserve_acting(&mut self) -> Result<(), AllocError>

@@ -14,7 +14,7 @@ ghost use Rattle.router_side.specs.SideOf.{side, IsInFront, HasRoom, KeepsRoom};
 ghost use Rattle.run_model.specs.Octets.{passing};
 ghost use Rattle.session_fsm.specs.Timers.{ticked};
 
-use super::SideEnd;
+use super::Side;
 use crate::append::{append_all, size_of_all, size_told};
 use crate::brought::Brought;
 use crate::draft::SideDraft;
@@ -25,7 +25,7 @@ use bgp_framing::{Framer, Next};
 use bgp_values::MESSAGE_LIMIT;
 use std::alloc::{AllocError, Global};
 
-impl SideEnd {
+impl Side {
     /// Makes room for all that a draft appends. It is refused only for want of memory, and the side stays
     /// as it was, with the room that it had, or more.
     pub fn reserve(

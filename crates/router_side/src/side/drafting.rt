@@ -7,14 +7,14 @@ ghost use Rattle.router_model.specs.Sides.{draft_event, draft_reset, draft_secon
 ghost use Rattle.router_side.specs.Drafts.{draft, hand};
 ghost use Rattle.router_side.specs.SideOf.{side};
 
-use super::SideEnd;
+use super::Side;
 use crate::brought::Brought;
 use crate::draft::SideDraft;
 use bgp_codec::Message;
 use link_epoch::Sign;
 use session_fsm::FsmEvent;
 
-impl SideEnd {
+impl Side {
     /// What an event that brings nothing will make of the side: a start, a stop.
     pub fn draft_event(&self, own_open: &Message, event: FsmEvent) -> SideDraft
         requires { IsGoodEvent event }
@@ -49,7 +49,7 @@ impl SideEnd {
     }
 
     /// Whether a timer of its session runs out in the next second. A second in which none does has a draft
-    /// in which the timers move alone: [`SideEnd::count_down`] is all of it.
+    /// in which the timers move alone: [`Side::count_down`] is all of it.
     pub fn runs_out(&self) -> bool
         ensures { result ≡ is_some (runs_out (side self.now).session) }
     {

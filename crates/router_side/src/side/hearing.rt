@@ -8,7 +8,7 @@ ghost use Rattle.router_side.specs.Acting.{IsRouteInFront};
 ghost use Rattle.router_side.specs.Sayings.{told_of, IsReadAs, IsSayableWhere};
 ghost use Rattle.router_side.specs.SideOf.{side};
 
-use super::SideEnd;
+use super::Side;
 use crate::reading::{Decoded, decode_frame, read_frame};
 use crate::told_path::ToldPath;
 use bgp_codec::laws::{header_fault_is_short, header_is_its_front, written_has_a_header};
@@ -16,7 +16,7 @@ use bgp_codec::{Asn, Rule};
 use bgp_framing::Next;
 use std::alloc::{AllocError, Global};
 
-impl SideEnd {
+impl Side {
     /// Octets of the peer are taken, and used where their incarnation is. It takes no memory.
     pub fn take_piece(&mut self, epoch: u32, octets: &[u8])
         requires piece { length octets.now ≤ MESSAGE_LIMIT }
@@ -47,7 +47,7 @@ impl SideEnd {
         }
     }
 
-    /// What [`SideEnd::front`] answers, for a caller that has not asked [`SideEnd::path_in_front`] before: a path
+    /// What [`Side::front`] answers, for a caller that has not asked [`Side::path_in_front`] before: a path
     /// that is told is read from its octets. It is refused only for want of memory.
     pub fn front_to_show(&self, alloc: Global, rule: &Rule) -> Result<Decoded, AllocError>
         requires { is_waiting (side self.now).held ≡ true }

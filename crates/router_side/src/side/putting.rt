@@ -5,11 +5,11 @@ ghost use Rattle.bgp_values.specs.declared.messages.TheConstants.{MESSAGE_LIMIT}
 ghost use Rattle.outbox.specs.Items.{next_item, octets_waiting};
 ghost use Rattle.router_side.specs.SideOf.{side, put_next};
 
-use super::SideEnd;
+use super::Side;
 use outbox::What;
 use std::alloc::AllocError;
 
-impl SideEnd {
+impl Side {
     /// How many octets of messages wait to be put.
     pub fn octets_waiting(&self) -> usize
         ensures { result ≡ octets_waiting (side self.now).outbox }

@@ -6,12 +6,12 @@ ghost use Rattle.router_model.specs.Sides.{is_up, marked};
 ghost use Rattle.router_side.specs.Sayings.{IsSayable};
 ghost use Rattle.router_side.specs.SideOf.{side, told_by, HasRoomToTell, HasRoomToMark, KeepsRoom};
 
-use super::SideEnd;
+use super::Side;
 use crate::told_path::ToldPath;
 use outbox::Control;
 use std::alloc::AllocError;
 
-impl SideEnd {
+impl Side {
     /// Makes room for a path to be told. It is refused only for want of memory, and the side stays as it was, with the
     /// room that it had, or more.
     pub fn reserve_path(&mut self, route: &ToldPath) -> Result<(), AllocError>

@@ -2,7 +2,7 @@
 //! each answer's equation along.
 
 use prefix_lanes::Prefix;
-use ranked_policy::Asn;
+use ranked_policy::{Asn, MOST_LINKS};
 use router_core::{Call, Command, Item, Router, RouterError, Stepped};
 use std::alloc::AllocError;
 
@@ -40,7 +40,15 @@ pub(super) fn takes_with(
     item: &Item,
     room: Result<(), AllocError>,
 ) -> Answer {
-    router.take(peer, item, room)
+    for place in 0..MOST_LINKS {
+        let Some(other) = router.peer_at(place) else {
+            break;
+        };
+        if other == peer {
+            return router.take_at(place, other, item, room);
+        }
+    }
+    Err(RouterError::NoSuchPeer)
 }
 
 pub(super) fn may_take(router: &Router<'_>, peer: Asn) -> bool {

@@ -10,7 +10,7 @@ use bgp_codec::laws::written_has_a_header;
 use bgp_values::Width;
 use link_epoch::Sign;
 use router_core::What;
-use router_side::{Brought, PastUpdate, SideEnd};
+use router_side::{Brought, PastUpdate, Side};
 use session_fsm::{FsmEvent, SessionConfig, State};
 use std::alloc::{AllocError, Global};
 use std::process::Abort;
@@ -26,7 +26,7 @@ const SESSION: SessionConfig = SessionConfig {
 // The side carries out what an event leads to.
 fn meets(
     alloc: Global,
-    side: &mut SideEnd,
+    side: &mut Side,
     own_open: &Message,
     event: FsmEvent,
 ) -> Result<(), AllocError>
@@ -42,7 +42,7 @@ fn meets(
 // The side carries out what a sign of the peer's leads to.
 fn is_given(
     alloc: Global,
-    side: &mut SideEnd,
+    side: &mut Side,
     own_open: &Message,
     sign: Sign,
 ) -> Result<(), AllocError>
@@ -55,32 +55,32 @@ fn is_given(
 }
 
 // A marker is appended.
-fn marks(side: &mut SideEnd, number: u32) -> Result<(), AllocError> {
+fn marks(side: &mut Side, number: u32) -> Result<(), AllocError> {
     side.reserve_marker()?;
     side.mark(number);
     Ok(())
 }
 
 // The item that is put next, once it is put.
-fn put(side: &mut SideEnd) -> Result<Option<What>, AllocError> {
+fn put(side: &mut Side) -> Result<Option<What>, AllocError> {
     let next = side.next_item(4096)?;
     side.item_put(4096);
     Ok(next)
 }
 
 // Whether the next item has this kind, this incarnation and this number of a marker.
-fn puts(side: &mut SideEnd, wanted: (u8, u32, u32)) -> bool {
+fn puts(side: &mut Side, wanted: (u8, u32, u32)) -> bool {
     match put(side) {
         Ok(Some(what)) => numbers(&what) == wanted,
         Ok(None) | Err(_) => false,
     }
 }
 
-fn is_in(side: &SideEnd, state: State, epoch: u32) -> bool {
+fn is_in(side: &Side, state: State, epoch: u32) -> bool {
     side.state() == state && side.epoch() == epoch
 }
 
-fn has_octets(side: &SideEnd, count: usize) -> bool {
+fn has_octets(side: &Side, count: usize) -> bool {
     side.octets_waiting() == count
 }
 
@@ -93,7 +93,7 @@ fn tells_nothing(told: Result<Vec<PastUpdate>, AllocError>) -> bool {
 }
 
 // Whether nothing waits, the session is not Established, and no UPDATE was acted on or sent.
-fn is_quiet(alloc: Global, side: &SideEnd) -> bool {
+fn is_quiet(alloc: Global, side: &Side) -> bool {
     !side.has_item()
         && !side.is_up()
         && tells_nothing(side.acted(alloc))
@@ -105,7 +105,7 @@ fn is_quiet(alloc: Global, side: &SideEnd) -> bool {
 #[test]
 fn a_side_opens(rt: HostRuntime) -> Result<(), Fail> {
     written_has_a_header();
-    let mut side = SideEnd::new(rt.alloc(), SESSION, Width::Two)?;
+    let mut side = Side::new(rt.alloc(), SESSION, Width::Two)?;
     a_side_opens_in(&rt, rt.alloc(), &Message::AliveMsg, &mut side)?;
     Ok(())
 }
@@ -114,7 +114,7 @@ fn a_side_opens_in(
     rt: &impl Abort,
     alloc: Global,
     own_open: &Message,
-    side: &mut SideEnd,
+    side: &mut Side,
 ) -> Result<(), AllocError>
     requires { (w : widths.Width) → IsSayable w own_open.now }
 {
@@ -130,7 +130,7 @@ fn a_side_opens_in(
 }
 
 // Its Dial, octets, and the marker.
-fn says_in_order(rt: &impl Abort, side: &mut SideEnd) {
+fn says_in_order(rt: &impl Abort, side: &mut Side) {
     assert!(rt; puts(side, (0, 1, 0)));
     assert!(rt; puts(side, (1, 1, 0)));
     assert!(rt; puts(side, (2, 1, 7)));

@@ -1,5 +1,5 @@
 //! Into which parts a search lets routers fall (`stable_search`): a router that has one path in all choices is
-//! a part by itself.
+//! a part by itself, and so is one that follows others.
 
 use super::networks::{Links, Plan, Rule, THREE_OVER_TWO, TRIANGLE, TWO_OVER_THREE, network};
 use super::searches::{LIMITS, found};
@@ -47,13 +47,16 @@ static BETWEEN_TWO: Plan = Plan {
     ],
 };
 
-// Whether the parts have these routers, and so many choices.
-fn are_parts(every: &Every, parts: &[(&[Asn], usize)]) -> bool {
+// Whether the parts have these routers, so many choices, and follow.
+fn are_parts(every: &Every, parts: &[(&[Asn], usize, bool)]) -> bool {
     if every.parts.len() != parts.len() {
         return false;
     }
     for (part, wanted) in every.parts.as_slice().iter().zip(parts) {
-        if part.routers.as_slice() != wanted.0 || part.choices.len() != wanted.1 {
+        if part.routers.as_slice() != wanted.0
+            || part.choices.len() != wanted.1
+            || part.follows != wanted.2
+        {
             return false;
         }
     }
@@ -65,7 +68,7 @@ fn has_parts(
     rt: &impl Abort,
     alloc: Global,
     plan: &Plan,
-    parts: &[(&[Asn], usize)],
+    parts: &[(&[Asn], usize, bool)],
 ) -> Result<(), NetError> {
     let net = network(alloc, plan)?;
     assert!(rt; are_parts(&found(rt, alloc, &net, &LIMITS), parts));
@@ -78,7 +81,13 @@ fn one_path_behind_two_that_disagree(rt: HostRuntime) -> Result<(), NetError> {
         &rt,
         rt.alloc(),
         &BEHIND_DISAGREE,
-        &[(&[1], 1), (&[2, 3, 4], 2), (&[5], 1), (&[6], 1)],
+        &[
+            (&[1], 1, false),
+            (&[2, 3], 2, false),
+            (&[4], 2, true),
+            (&[5], 1, false),
+            (&[6], 1, false),
+        ],
     )
 }
 
@@ -89,11 +98,13 @@ fn one_path_between_two_disputes(rt: HostRuntime) -> Result<(), NetError> {
         rt.alloc(),
         &BETWEEN_TWO,
         &[
-            (&[1], 1),
-            (&[2, 3, 4], 2),
-            (&[5], 1),
-            (&[6], 1),
-            (&[7, 8, 9], 2),
+            (&[1], 1, false),
+            (&[2, 3], 2, false),
+            (&[4], 2, true),
+            (&[5], 1, false),
+            (&[6], 1, false),
+            (&[7, 8], 2, false),
+            (&[9], 2, true),
         ],
     )
 }

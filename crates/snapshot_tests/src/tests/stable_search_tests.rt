@@ -84,6 +84,13 @@ static BESIDE_DISAGREE: Plan = Plan {
     rules: DISAGREEING,
 };
 
+/// The paths that come to them.
+static PATHS_BESIDE_DISAGREE: Plan = Plan {
+    routers: 4,
+    links: &[TRIANGLE, &[(2, 4), (1, 4)]],
+    rules: &[TWO_OVER_THREE, THREE_OVER_TWO, &[&[4, 1]]],
+};
+
 /// 2 has a rule, 3 and 4 have none.
 static BEHIND_A_RULE: Plan = Plan {
     routers: 4,
@@ -193,21 +200,49 @@ fn is_listed(every: &Every, assignment: &Assignment) -> bool {
     true
 }
 
-// Whether the assignment of a number is listed exactly where it is stable; true where there is none.
-fn agrees(alloc: Global, plan: &Plan, net: &Network, every: &Every, code: u32) -> bool {
-    let mut assignment = Assignment::new(alloc);
-    !sets_all(alloc, plan, code, &mut assignment)
-        || is_stable(alloc, net, &assignment) == is_listed(every, &assignment)
-}
-
-fn all_agree(rt: &impl Abort, alloc: Global, plan: &Plan, net: &Network, every: &Every) {
-    for code in 0..MOST_LISTED.wrapping_pow(plan.routers) {
-        assert!(rt; agrees(alloc, plan, net, every, code), "assignment {code}");
+fn has_follower(every: &Every) -> bool {
+    for part in every.parts.as_slice() {
+        if part.follows {
+            return true;
+        }
     }
+    false
 }
 
-/// The search of the network of a plan lists so many assignments; of those of the paths that another plan
-/// lists, it lists those that are stable.
+// Whether the assignment of a number is stable, if there is one; and whether it is listed where it is stable, and, if no
+// router follows, nowhere else.
+fn agrees(alloc: Global, plan: &Plan, net: &Network, every: &Every, code: u32) -> (bool, bool) {
+    let mut assignment = Assignment::new(alloc);
+    if !sets_all(alloc, plan, code, &mut assignment) {
+        return (false, true);
+    }
+    let stable = is_stable(alloc, net, &assignment);
+    let listed = is_listed(every, &assignment);
+    (stable, stable == listed || listed && has_follower(every))
+}
+
+// As many assignments of these paths are stable.
+fn all_agree(
+    rt: &impl Abort,
+    alloc: Global,
+    plan: &Plan,
+    net: &Network,
+    every: &Every,
+    stable: u64,
+) {
+    let mut count = 0u64;
+    for code in 0..MOST_LISTED.wrapping_pow(plan.routers) {
+        let (is_one, agrees) = agrees(alloc, plan, net, every, code);
+        assert!(rt; agrees, "assignment {code}");
+        if is_one {
+            count = count.wrapping_add(1);
+        }
+    }
+    assert!(rt; count == stable, "{count} stable");
+}
+
+/// The search of the network of a plan lists so many assignments; so many of those of the paths that another plan
+/// lists are stable, and are listed.
 pub(super) fn finds_among(
     rt: &impl Abort,
     alloc: Global,
@@ -218,7 +253,7 @@ pub(super) fn finds_among(
     let net = network(alloc, plan)?;
     let every = found(rt, alloc, &net, &LIMITS);
     assert!(rt; every.count() == Some(stable));
-    all_agree(rt, alloc, all, &net, &every);
+    all_agree(rt, alloc, all, &net, &every, stable);
     Ok(())
 }
 
@@ -373,7 +408,7 @@ fn a_router_without_a_rule_follows(rt: HostRuntime) -> Result<(), NetError> {
 // 4 has no rule and is linked with the origin, so it has one path whatever 2 and 3 have.
 #[test]
 fn beside_two_that_disagree_there_is_one_path(rt: HostRuntime) -> Result<(), NetError> {
-    finds(&rt, rt.alloc(), &BESIDE_DISAGREE, 2)
+    finds_among(&rt, rt.alloc(), &BESIDE_DISAGREE, &PATHS_BESIDE_DISAGREE, 2)
 }
 
 #[test]

@@ -20,10 +20,10 @@ fn write_down(chores: &mut Vec<Chore>, chore: &Chore)
 }
 
 impl<'a, L: Pipes, D: Desk, G: Gate> Worker<'a, L, D, G> {
-    ghost use Rattle.std.specs.Prelude.{◌≡◌, IfOk, IfErr, OnErr};
+    ghost use Rattle.std.specs.Prelude.{◌≡◌, IfOk, IfErr, OnErr, Some, slice_get};
     ghost use Rattle.worker_loop.specs.Following.{Calls, Each, Meets, Turns, Obeys};
     ghost use Rattle.router_model.specs.Calls as calls;
-    ghost use Rattle.worker_loop.specs.Whole.{DidSo, IsSameWorker, IsSameBut};
+    ghost use Rattle.worker_loop.specs.Whole.{DidSo, IsSameWorker, IsSameBut, PipesStand, peers_of};
     ghost use Rattle.worker_loop.specs.Ending.{EndsCall, EndsMeet, EndsMeeting, EndsTurn, EndsChore};
     ghost use Rattle.std.specs.Prelude.{◌≤◌, length, vec_capacity, [], ◌∷◌, ◌++◌};
 
@@ -46,41 +46,46 @@ impl<'a, L: Pipes, D: Desk, G: Gate> Worker<'a, L, D, G> {
         Ok(chore)
     }
 
-    // Tries one Put, one Take and one Handle with a peer.
-    fn meet<R: Wait>(&mut self, rt: &R, peer: Asn) -> Result<(), WorkerFault>
+    // Tries one Put, one Take and one Handle with the peer at a place.
+    fn meet<R: Wait>(&mut self, rt: &R, peer_at: usize, peer: Asn) -> Result<(), WorkerFault>
+        requires stands { slice_get (peers_of self.old) peer_at ≡ Some peer }
+        requires pipes { L.stands (L.wiring self.old.lines) peer_at peer }
         ensures done { IfOk result
             (λ _. DidSo L.put_to L.taken_from L.room D.made self.old self.new
             (λ g. Meets g self.old.router.number peer)) }
         ensures same { IsSameWorker L.wiring self.old self.new }
         ensures ended { IfErr result (EndsMeet L.taken_from self.new peer) }
     {
-        self.try_put(rt, peer)?;
-        self.try_take(rt, peer)?;
-        let event = Event::Handle(self.router.number(), peer);
-        self.try_call(&Call::Handle(peer), event)?;
+        self.try_put(rt, peer_at, peer)?;
+        self.try_take(rt, peer_at, peer)?;
+        self.try_handle(peer_at, peer)?;
         Ok(())
     }
 
     // Tries one Put, one Take and one Handle with each peer, rising.
     fn meet_all<R: Wait>(&mut self, rt: &R) -> Result<(), WorkerFault>
+        requires pipes { PipesStand L.stands L.wiring self.old }
         ensures done { IfOk result
             (λ _. DidSo L.put_to L.taken_from L.room D.made self.old self.new
-            (λ g. Each (Meets g self.old.router.number) self.old.peers.items)) }
+            (λ g. Each (Meets g self.old.router.number) (peers_of self.old))) }
         ensures same { IsSameWorker L.wiring self.old self.new }
         ensures ended { IfErr result (EndsMeeting L.taken_from self.new) }
     {
-        for place in 0..self.peers.len() {
-            let peer = self.peers[place];
-            self.meet(rt, peer)?;
+        for peer_at in 0..self.lines.places() {
+            match self.router.peer_at(peer_at) {
+                Some(peer) => self.meet(rt, peer_at, peer)?,
+                None => return Ok(()),
+            }
         }
         Ok(())
     }
 
     // Does a turn.
     fn turn<R: Wait>(&mut self, rt: &R, board: &D::Board) -> Result<(), WorkerFault>
+        requires pipes { PipesStand L.stands L.wiring self.old }
         ensures done { IfOk result
             (λ _. DidSo L.put_to L.taken_from L.room D.made self.old self.new
-            (λ g. Turns g self.old.router.number self.old.peers.items)) }
+            (λ g. Turns g self.old.router.number (peers_of self.old))) }
         ensures same { IsSameWorker L.wiring self.old self.new }
         ensures ended { IfErr result (EndsTurn L.taken_from self.new) }
     {
@@ -111,9 +116,10 @@ impl<'a, L: Pipes, D: Desk, G: Gate> Worker<'a, L, D, G> {
         board: &D::Board,
         chore: &Chore,
     ) -> Result<(), WorkerFault>
+        requires pipes { PipesStand L.stands L.wiring self.old }
         ensures done { IfOk result
             (λ _. DidSo L.put_to L.taken_from L.room D.made self.old self.new
-            (λ g. Obeys g self.old.router.number self.old.peers.items chore.now)) }
+            (λ g. Obeys g self.old.router.number (peers_of self.old) chore.now)) }
         ensures same { IsSameWorker L.wiring self.old self.new }
         ensures ended { IfErr result (EndsChore L.taken_from self.new chore.now) }
     {

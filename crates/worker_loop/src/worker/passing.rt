@@ -15,26 +15,52 @@ fn events_behind(events: &[WorkerEvent], before: usize) -> &[WorkerEvent] {
 }
 
 impl<'a, L: Pipes, D: Desk, G: Gate> Worker<'a, L, D, G> {
-    ghost use Rattle.std.specs.Prelude.{◌≡◌, ◌<◌, ◌≤◌, ◌++◌, length, replicate, IsTrue, IfOk, IfErr};
+    ghost use Rattle.std.specs.Prelude.{◌≡◌, ◌<◌, ◌≤◌, ◌++◌, length, replicate, All, IsTrue, IfOk, IfErr};
     ghost use Rattle.worker_loop.specs.Following.{Obeys};
-    ghost use Rattle.worker_loop.specs.Whole.{DidSo, MayPass, IsSameWorker, IsSameBut};
+    ghost use Rattle.worker_loop.specs.Whole.{DidSo, MayPass, IsQuiet, IsSameWorker, IsSameBut, PipesStand, peers_of};
     ghost use Rattle.worker_loop.specs.declared.chore.Chore.TheVariants.{Turn};
     ghost use Rattle.worker_loop.specs.Ending.{EndsChore};
 
     // Whether an item waits to be put towards a peer.
     fn is_blocked(&self) -> bool {
-        let mut peers = self.peers.iter();
-        peers.any(|peer| !self.router.puts_nothing(*peer))
+        for peer_at in 0..self.lines.places() {
+            match self.router.peer_at(peer_at) {
+                Some(peer) => {
+                    if !self.router.puts_nothing_at(peer_at, peer) {
+                        return true;
+                    }
+                }
+                None => return false,
+            }
+        }
+        false
+    }
+
+    // Whether the router has nothing to put towards a peer, and nothing of one to handle.
+    fn links_are_idle(&self) -> bool
+        requires pipes { PipesStand L.stands L.wiring self.now }
+        ensures { IsTrue result → All (IsQuiet self.now.router) (peers_of self.now) }
+    {
+        for peer_at in 0..self.lines.places() {
+            match self.router.peer_at(peer_at) {
+                Some(peer) => {
+                    if !self.router.link_is_idle_at(peer_at, peer) {
+                        return false;
+                    }
+                }
+                None => return true,
+            }
+        }
+        true
     }
 
     // Whether the router has nothing to put, to handle, to decide, to tell and to offer. A Turn may then do nothing.
     fn has_nothing_to_do(&self) -> bool
+        requires pipes { PipesStand L.stands L.wiring self.now }
         ensures { IsTrue result → MayPass L.put_to L.taken_from L.room D.made self.now }
     {
-        for place in 0..self.peers.len() {
-            if !self.router.link_is_idle(self.peers[place]) {
-                return false;
-            }
+        if !self.links_are_idle() {
+            return false;
         }
         self.router.is_idle()
     }
@@ -100,8 +126,9 @@ impl<'a, L: Pipes, D: Desk, G: Gate> Worker<'a, L, D, G> {
         given: u32,
         most: u32,
     ) -> Result<bool, WorkerFault>
+        requires pipes { PipesStand L.stands L.wiring self.old }
         ensures done { IfOk result (λ _. DidSo L.put_to L.taken_from L.room D.made self.old self.new
-            (λ g. Obeys g self.old.router.number self.old.peers.items chore.now)) }
+            (λ g. Obeys g self.old.router.number (peers_of self.old) chore.now)) }
         ensures passes { IfOk result (λ passes. IsTrue passes → MayPass L.put_to L.taken_from L.room D.made self.new) }
         ensures same { IsSameWorker L.wiring self.old self.new }
         ensures ended { IfErr result (EndsChore L.taken_from self.new chore.now) }

@@ -28,7 +28,8 @@ fn lost(error: RouterError) -> WorkerFault
 }
 
 // The answer to a put for which memory is wanting: there is nothing to do if the pipe is full, else the worker ends.
-fn full_or_ended<L: Pipes>(lines: &mut L, peer: Asn) -> Result<(), WorkerFault>
+fn full_or_ended<L: Pipes>(lines: &mut L, peer_at: usize, peer: Asn) -> Result<(), WorkerFault>
+    requires pipes { L.stands (L.wiring lines.old) peer_at peer }
     ensures full { OnOk result (L.room lines.old peer ≤ length (L.put_to lines.old peer)) }
     ensures memory { IfErr result (λ why. why ≡ WorkerFault.Memory) }
     ensures put { L.put_to lines.new ≡ L.put_to lines.old }
@@ -36,21 +37,28 @@ fn full_or_ended<L: Pipes>(lines: &mut L, peer: Asn) -> Result<(), WorkerFault>
     ensures room { L.room lines.new ≡ L.room lines.old }
     ensures wiring { L.wiring lines.new ≡ L.wiring lines.old }
 {
-    if lines.is_full(peer) {
+    if lines.is_full(peer_at, peer) {
         return Ok(());
     }
     Err(WorkerFault::Memory)
 }
 
 impl<'a, L: Pipes, D: Desk, G: Gate> Worker<'a, L, D, G> {
-    ghost use Rattle.std.specs.Prelude.{◌≡◌, IfOk, IfErr};
-    ghost use Rattle.router_model.specs.Calls.{Put};
-    ghost use Rattle.worker_loop.specs.Following.{Puts, Takes};
-    ghost use Rattle.worker_loop.specs.Whole.{DidSo, IsSameWorker};
+    ghost use Rattle.std.specs.Prelude.{◌≡◌, IfOk, IfErr, Some, slice_get};
+    ghost use Rattle.router_model.specs.Calls.{Put, Handle};
+    ghost use Rattle.worker_loop.specs.Following.{Puts, Takes, Calls};
+    ghost use Rattle.worker_loop.specs.Whole.{DidSo, IsSameWorker, peers_of};
     ghost use Rattle.worker_loop.specs.Ending.{EndsCall, EndsTake};
 
-    // Tries to put the next item towards a peer.
-    pub(super) fn try_put<R: Wait>(&mut self, rt: &R, peer: Asn) -> Result<(), WorkerFault>
+    // Tries to put the next item towards the peer at a place.
+    pub(super) fn try_put<R: Wait>(
+        &mut self,
+        rt: &R,
+        peer_at: usize,
+        peer: Asn,
+    ) -> Result<(), WorkerFault>
+        requires stands { slice_get (peers_of self.old) peer_at ≡ Some peer }
+        requires pipes { L.stands (L.wiring self.old.lines) peer_at peer }
         ensures done { IfOk result
             (λ _. DidSo L.put_to L.taken_from L.room D.made self.old self.new
             (λ g. Puts g self.old.router.number peer)) }
@@ -58,18 +66,18 @@ impl<'a, L: Pipes, D: Desk, G: Gate> Worker<'a, L, D, G> {
         ensures ended { IfErr result (EndsCall self.new (Put peer)) }
     {
         answers_are_steps();
-        let item = match self.router.next_item(peer) {
+        let item = match self.router.next_item_at(peer_at, peer) {
             Ok(Some(item)) => item,
             Ok(None) => return Ok(()),
-            Err(RouterError::Memory) => return full_or_ended(&mut self.lines, peer),
+            Err(RouterError::Memory) => return full_or_ended(&mut self.lines, peer_at, peer),
             Err(error) => return passed_over(error),
         };
         if self.journal.events.reserve(1).is_err() {
-            return full_or_ended(&mut self.lines, peer);
+            return full_or_ended(&mut self.lines, peer_at, peer);
         }
-        match self.lines.put(rt, peer, item) {
+        match self.lines.put(rt, peer_at, peer, item) {
             Ok(()) => {
-                self.router.item_put(peer);
+                self.router.item_put_at(peer_at, peer);
                 let event = Event::Put(self.router.number(), peer);
                 note(&mut self.journal.events, self.router.stamp(), event);
                 Ok(())
@@ -78,9 +86,16 @@ impl<'a, L: Pipes, D: Desk, G: Gate> Worker<'a, L, D, G> {
         }
     }
 
-    // Tries to take the next item of a peer. Nothing is taken if a message of the peer waits, since the router would
-    // refuse the item.
-    pub(super) fn try_take<R: Wait>(&mut self, rt: &R, peer: Asn) -> Result<(), WorkerFault>
+    // Tries to take the next item of the peer at a place. Nothing is taken if a message of the peer waits, since the
+    // router would refuse the item.
+    pub(super) fn try_take<R: Wait>(
+        &mut self,
+        rt: &R,
+        peer_at: usize,
+        peer: Asn,
+    ) -> Result<(), WorkerFault>
+        requires stands { slice_get (peers_of self.old) peer_at ≡ Some peer }
+        requires pipes { L.stands (L.wiring self.old.lines) peer_at peer }
         ensures done { IfOk result
             (λ _. DidSo L.put_to L.taken_from L.room D.made self.old self.new
             (λ g. Takes g self.old.router.number peer)) }
@@ -88,14 +103,14 @@ impl<'a, L: Pipes, D: Desk, G: Gate> Worker<'a, L, D, G> {
         ensures ended { IfErr result (EndsTake L.taken_from self.new peer) }
     {
         answers_are_steps();
-        if !self.router.may_take(peer) {
+        if !self.router.may_take_at(peer_at, peer) {
             return Ok(());
         }
-        let Some(item) = self.lines.take(rt, peer) else {
+        let Some(item) = self.lines.take(rt, peer_at, peer) else {
             return Ok(());
         };
         let room = self.journal.events.reserve(1);
-        match self.router.take(peer, &item, room) {
+        match self.router.take_at(peer_at, peer, &item, room) {
             Ok(Stepped::Did) => {
                 let event = Event::Take(self.router.number(), peer);
                 note(&mut self.journal.events, self.router.stamp(), event);
@@ -103,6 +118,28 @@ impl<'a, L: Pipes, D: Desk, G: Gate> Worker<'a, L, D, G> {
             }
             Ok(Stepped::Nothing) => Ok(()),
             Err(error) => Err(lost(error)),
+        }
+    }
+
+    // Tries to handle what waits in front of the peer at a place.
+    pub(super) fn try_handle(&mut self, peer_at: usize, peer: Asn) -> Result<(), WorkerFault>
+        requires stands { slice_get (peers_of self.old) peer_at ≡ Some peer }
+        ensures done { IfOk result
+            (λ _. DidSo L.put_to L.taken_from L.room D.made self.old self.new
+            (λ g. Calls g self.old.router.number (Handle peer))) }
+        ensures same { IsSameWorker L.wiring self.old self.new }
+        ensures ended { IfErr result (EndsCall self.new (Handle peer)) }
+    {
+        answers_are_steps();
+        let room = self.journal.events.reserve(1);
+        match self.router.handle_at(peer_at, peer, room) {
+            Ok(Stepped::Did) => {
+                let event = Event::Handle(self.router.number(), peer);
+                note(&mut self.journal.events, self.router.stamp(), event);
+                Ok(())
+            }
+            Ok(Stepped::Nothing) => Ok(()),
+            Err(error) => passed_over(error),
         }
     }
 }

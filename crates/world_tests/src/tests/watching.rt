@@ -21,7 +21,9 @@ impl Watch for Log {
 
     ghost said = { λ _. [] };
 
-    ghost says = { λ _ text. text ≡ [] };
+    ghost saw = { λ _ _ _. Unit {0} };
+
+    ghost says = { λ _ _ _ text. text ≡ [] };
 
     ghost says_of_round = { λ _ _. [] };
 

@@ -1,11 +1,13 @@
 use Rattle.net_workers.proofs.net.run_net.Goals as goal
 
-pub returns-in-Ok-clause-recorded : goal.returns-in-Ok-clause-recorded
-returns-in-Ok-clause-recorded g c =
+pub returns-in-Ok-clause-ran : goal.returns-in-Ok-clause-ran
+returns-in-Ok-clause-ran g c =
     let e = c.in-Ok.ensures in
-    rw (e.workers, e.ways, e.collector) (c.in_ok-journals.ensures.recorded c.in-Ok.record.gathered.items e.sorted)
-
-pub returns-in-Ok-clause-promises : goal.returns-in-Ok-clause-promises
-returns-in-Ok-clause-promises g c =
-    let e = c.in-Ok.ensures in
-    rw (e.workers, e.ways, e.collector) (c.in_ok-journals.ensures.promises c.in-Ok.record.gathered.items e.sorted)
+    let r = c.in_ok-journals.ensures.ran in
+    let gathered = c.in-Ok.record.gathered.items in
+    record {
+      script = rw e.workers r.script;
+      ways = rw e.ways r.ways;
+      recorded = rw (e.workers, e.ways, e.collector) (r.recorded gathered e.sorted);
+      promises = rw (e.workers, e.ways, e.collector) (r.promises gathered e.sorted);
+    }

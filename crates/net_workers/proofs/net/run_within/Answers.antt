@@ -1,5 +1,5 @@
 use Rattle.std.proofs.Common.{ap, map, ◌∙◌}
-use Rattle.net_workers.proofs.Faults.{ok_so, err_so, is_inside, fault_is, worked_script}
+use Rattle.net_workers.proofs.Faults.{err_so, is_inside, fault_is, journals_are}
 use Rattle.net_workers.proofs.net.run_within.Goals as goal
 
 pub journals_of-requires : goal.journals_of-requires
@@ -14,10 +14,8 @@ returns-clause-fault g c =
     err_so c.journals_of.result _ _ (λ why is. fault_is g.G.Gate.given c.args.network.now c.args.turns g.G.Gate.script (map g.G.Gate.script c.args.gates.items) ends why
     c.in_ok-workers.ensures.ended c.in_ok-workers.ensures.script is) c.journals_of.ensures.fault
 
-pub returns-clause-script : goal.returns-clause-script
-returns-clause-script g c =
-    let ends = c.in_ok-workers.workers.items in
-    ok_so c.journals_of.result _ _ (λ r is. ap (map (λ w. g.G.Gate.script w.gate)) is ∙ worked_script g.G.Gate.script ends ∙ c.in_ok-workers.ensures.script) c.journals_of.ensures.worked
-
-pub returns-clause-recorded : goal.returns-clause-recorded
-returns-clause-recorded g c = c.journals_of.ensures.recorded c.args.turns c.in_ok-workers.ensures.ended
+pub returns-clause-ran : goal.returns-clause-ran
+returns-clause-ran g c =
+    let j = c.journals_of.ensures in
+    journals_are g.G.Gate.given g.G.Gate.script c.args.network.now c.args.turns (map g.G.Gate.script c.args.gates.items) c.in_ok-workers.workers.items c.journals_of.result
+    c.in_ok-workers.ensures.script j.worked j.ways (j.recorded c.args.turns c.in_ok-workers.ensures.ended) j.promises

@@ -1,10 +1,10 @@
-use Rattle.std.proofs.Common.{◌∙◌, ◌≡◌, sym, arith, subst, []}
+use Rattle.std.proofs.Common.{◌∙◌, ◌≡◌, sym, ap, arith, subst, []}
 use Rattle.std.specs.List.{AllByRecursion}
-use Rattle.ranked_policy.specs.Plans.{IsRouter}
+use Rattle.ranked_policy.specs.Plans.{IsRouter, numbers}
 use Rattle.net_workers.specs.Lanes.{AreNew}
-use Rattle.net_workers.specs.Dealt.{AreDealt}
+use Rattle.net_workers.specs.Dealt.{Dealt, wires_by}
 use Rattle.net_workers.specs.Ran.{IsFresh, lines_of}
-use Rattle.net_workers.proofs.Lists.{one_more, all_more, lines_more, shorter, is_router}
+use Rattle.net_workers.proofs.Lists.{one_more, all_more, lines_more, parts_more, shorter, is_router}
 use Rattle.net_workers.proofs.running.new_workers.Goals as goal
 
 pub new_worker-requires-clause-router : goal.new_worker-requires-clause-router
@@ -28,8 +28,9 @@ loop-router-preserved g c =
           (sym (lines_more (λ e. e.worker.gate) l.workers.items c.in_ok-new_worker.field-0 c.in-Some-Some.gate _ l.gates.rest.items c.in-Some-Some.ensures'.items c.in_ok-new_worker.ensures.gate)
           ∙ l.invariant.handed);
       dealt = rw items
-          (subst (AreDealt c.args.network.now c.args.network.now.links)
-          (lines_more lines_of l.workers.items c.in_ok-new_worker.field-0 c.in-Some-Some.lines _ l.ends.rest.items c.in-Some-Some.ensures.items c.in_ok-new_worker.ensures.lines)
+          (subst (λ ls. Dealt c.args.network.now.settings.pipe c.args.network.now.links (wires_by (numbers c.args.network.now.routers) ls))
+          (parts_more lines_of (λ e. e.pairs.items) l.workers.items c.in_ok-new_worker.field-0 c.in-Some-Some.lines _ l.ends.rest.items c.in-Some-Some.ensures.items
+          (ap (λ ls. ls.items) c.in_ok-new_worker.ensures.pairs))
           l.invariant.dealt);
       fresh = rw items (all_more (λ e. IsFresh g.G.Gate.given c.args.network.now e.worker) l.workers.items c.in_ok-new_worker.field-0 l.invariant.fresh c.in_ok-new_worker.ensures.fresh);
     }

@@ -6,6 +6,6 @@ use Rattle.rib_tables.proofs.changes.clear_all.Goals as goal
 
 pub returns-clause-rows : goal.returns-clause-rows
 returns-clause-rows c =
-    let done = c.loop-place-test.false in
-    map_by_places clearing c.args.rows.now.items c.loop-place.rows.items c.loop-place.invariant.len
-    (λ i r at. let lt = slice_get_within c.args.rows.now.items i r at in c.loop-place.invariant.passed i r (omega (arith, lt, done)) at)
+    let done = c.loop-prefix_at-test.false in
+    map_by_places clearing c.args.rows.now.items c.loop-prefix_at.rows.items c.loop-prefix_at.invariant.len
+    (λ i r at. let lt = slice_get_within c.args.rows.now.items i r at in c.loop-prefix_at.invariant.passed i r (omega (arith, lt, done)) at)

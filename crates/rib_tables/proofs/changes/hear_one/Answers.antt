@@ -24,19 +24,19 @@ returns-in-Some-clause-rows c =
     let rows = c.args.rows.now.items in
     let fit = c.requires.1 in
     let at = c.in-Some.ensures in
-    let here = row_at keys rows fit.listed c.in-Some.place c.args.prefix.now at in
-    let row = row_is rows c.in-Some.place here.0 c.index_mut-row.result.now here.1 c.index_mut-row.ensures.value in
-    heard_at rows c.in-Some.place here.0 c.index_mut-row.result.now row c.args.by.now.peer c.args.word c.set.new.self c.set.ensures
-    ∙ set_at_key keys c.requires.0 rows fit c.args.prefix.now c.in-Some.place at (hearing c.args.by.now.peer c.args.word) here.0 here.1
+    let here = row_at keys rows fit.listed c.in-Some.prefix_at c.args.prefix.now at in
+    let row = row_is rows c.in-Some.prefix_at here.0 c.index_mut-row.result.now here.1 c.index_mut-row.ensures.value in
+    heard_at rows c.in-Some.prefix_at here.0 c.index_mut-row.result.now row c.args.by.now.peer c.args.word c.set.new.self c.set.ensures
+    ∙ set_at_key keys c.requires.0 rows fit c.args.prefix.now c.in-Some.prefix_at at (hearing c.args.by.now.peer c.args.word) here.0 here.1
 
 pub returns-in-Some-clause-dirty : goal.returns-in-Some-clause-dirty
 returns-in-Some-clause-dirty c =
     let rows = c.args.rows.now.items in
-    let here = row_at c.args.by.now.keys.now.keys rows c.requires.1.listed c.in-Some.place c.args.prefix.now c.in-Some.ensures in
-    let row = row_is rows c.in-Some.place here.0 c.index_mut-row.result.now here.1 c.index_mut-row.ensures.value in
-    subst (λ (rs : List Row). StaysDecided c.args.by.now.router rows rs c.args.dirty.now c.mark_heard.new.dirty) (sym (heard_at rows c.in-Some.place here.0 c.index_mut-row.result.now row c.args.by.now.peer c.args.word c.set.new.self c.set.ensures))
-    (row_stays c.args.by.now.router rows c.in-Some.place here.0 here.1 c.args.by.now.peer c.args.word c.args.dirty.now c.mark_heard.new.dirty c.mark_heard.ensures.others
-    (subst (λ (r : Row). has c.mark_heard.new.dirty c.in-Some.place ≡ false → (has c.args.dirty.now c.in-Some.place ≡ false) × BestStays c.args.by.now.router r c.args.by.now.peer c.args.word) row c.mark_heard.ensures.here))
+    let here = row_at c.args.by.now.keys.now.keys rows c.requires.1.listed c.in-Some.prefix_at c.args.prefix.now c.in-Some.ensures in
+    let row = row_is rows c.in-Some.prefix_at here.0 c.index_mut-row.result.now here.1 c.index_mut-row.ensures.value in
+    subst (λ (rs : List Row). StaysDecided c.args.by.now.router rows rs c.args.dirty.now c.mark_heard.new.dirty) (sym (heard_at rows c.in-Some.prefix_at here.0 c.index_mut-row.result.now row c.args.by.now.peer c.args.word c.set.new.self c.set.ensures))
+    (row_stays c.args.by.now.router rows c.in-Some.prefix_at here.0 here.1 c.args.by.now.peer c.args.word c.args.dirty.now c.mark_heard.new.dirty c.mark_heard.ensures.others
+    (subst (λ (r : Row). has c.mark_heard.new.dirty c.in-Some.prefix_at ≡ false → (has c.args.dirty.now c.in-Some.prefix_at ≡ false) × BestStays c.args.by.now.router r c.args.by.now.peer c.args.word) row c.mark_heard.ensures.here))
 
 pub returns-in_default-clause-rows : goal.returns-in_default-clause-rows
 returns-in_default-clause-rows c = same_rows c.args.by.now.keys.now.keys c.requires.0 c.args.rows.now.items c.requires.1 c.args.prefix.now c.in_default.ensures (hearing c.args.by.now.peer c.args.word)

@@ -6,5 +6,5 @@ use Rattle.rib_tables.specs.Places.{has}
 use Rattle.rib_tables.specs.Rows.{Speaking}
 use Rattle.rib_tables.proofs.changes.mark_words.Given as goal
 
-abbrev pub invariant-loop-place : goal.invariant-loop-place
-invariant-loop-place l = (i : ℕ) → has l.dirty i ≡ false → (has l.fn.dirty i ≡ false) × ((r : Row) → i < l.place → slice_get l.rows i ≡ Some r → Speaking l.peer r → ⊥)
+abbrev pub invariant-loop-prefix_at : goal.invariant-loop-prefix_at
+invariant-loop-prefix_at l = (i : ℕ) → has l.dirty i ≡ false → (has l.fn.dirty i ≡ false) × ((r : Row) → i < l.prefix_at → slice_get l.rows i ≡ Some r → Speaking l.peer r → ⊥)

@@ -7,8 +7,8 @@ use Rattle.rib_tables.specs.declared.row.Row.{Row}
 use Rattle.rib_tables.specs.Places.{has}
 use Rattle.rib_tables.proofs.changes.unadvertised.Given as goal
 
-abbrev pub invariant-loop-place : goal.invariant-loop-place
-invariant-loop-place l = record {
-  passed : (i : ℕ) (r : Row) → i < l.place → slice_get l.rows i ≡ Some r → (has l.waiting i ≡ true ↔ (slice_get r.sent l.peer ≢ Some (Sequence r.kept)));
-  ahead : (i : ℕ) → l.place ≤ i → has l.waiting i ≡ false;
+abbrev pub invariant-loop-prefix_at : goal.invariant-loop-prefix_at
+invariant-loop-prefix_at l = record {
+  passed : (i : ℕ) (r : Row) → i < l.prefix_at → slice_get l.rows i ≡ Some r → (has l.waiting i ≡ true ↔ (slice_get r.sent l.peer ≢ Some (Sequence r.kept)));
+  ahead : (i : ℕ) → l.prefix_at ≤ i → has l.waiting i ≡ false;
 }

@@ -9,12 +9,12 @@ use Rattle.rib_tables.specs.Rows.{IsWaiting}
 use Rattle.rib_tables.proofs.RibLemmas.{set_here, set_there}
 use Rattle.rib_tables.proofs.changes.wait_after_all.Goals as goal
 
-pub loop-place-preserved : goal.loop-place-preserved
-loop-place-preserved c =
-    let n = c.loop-place.place in
-    let waits = c.loop-place.waits.items in
-    let long = c.loop-place.invariant.len in
-    let lt = c.loop-place-test.true in
+pub loop-peer_at-preserved : goal.loop-peer_at-preserved
+loop-peer_at-preserved c =
+    let n = c.loop-peer_at.peer_at in
+    let waits = c.loop-peer_at.waits.items in
+    let long = c.loop-peer_at.invariant.len in
+    let lt = c.loop-peer_at-test.true in
     record {
       len = length-set waits n c.waiting_now.result ∙ long;
       passed = λ k p waiting under at there. elim (cases_order k n) [
@@ -27,15 +27,15 @@ loop-place-preserved c =
             (subst (λ (y : Peer). IsWaiting n y c.args.rows.now waiting) (sym peer) (subst (λ (w : PlaceSet). IsWaiting n x c.args.rows.now w) (sym set) c.waiting_now.ensures))
         | inr differ ↦
             let apart : k ≢ n = λ e. elim differ [ inl l ↦ omega (arith, l, e) | inr m ↦ omega (arith, m, e) ] in
-            c.loop-place.invariant.passed k p waiting (elim differ [ inl l ↦ l | inr m ↦ absurd (omega (arith, m, under)) ]) at (sym (set_there waits n k c.waiting_now.result apart) ∙ there)
+            c.loop-peer_at.invariant.passed k p waiting (elim differ [ inl l ↦ l | inr m ↦ absurd (omega (arith, m, under)) ]) at (sym (set_there waits n k c.waiting_now.result apart) ∙ there)
       ];
     }
 
 pub returns : goal.returns
 returns c = record {
-  long = c.loop-place.invariant.len;
+  long = c.loop-peer_at.invariant.len;
   each = λ k p waiting at there.
       let lt = slice_get_within c.args.peers.now k p at in
-      let done = c.loop-place-test.false in
-      c.loop-place.invariant.passed k p waiting (omega (arith, lt, done)) at there;
+      let done = c.loop-peer_at-test.false in
+      c.loop-peer_at.invariant.passed k p waiting (omega (arith, lt, done)) at there;
 }

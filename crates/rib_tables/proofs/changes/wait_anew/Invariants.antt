@@ -11,6 +11,6 @@ use Rattle.rib_tables.proofs.changes.wait_anew.Given as goal
 abbrev pub invariant-loop-k : goal.invariant-loop-k
 invariant-loop-k l = record {
   len : length l.waits ≡ length l.fn.waits;
-  here : (k : ℕ) (p : Peer) (w : PlaceSet) → k < l.k → slice_get l.peers k ≡ Some p → slice_get l.waits k ≡ Some w → (has w l.place ≡ true ↔ ((p.up ≡ true) × (slice_get l.row.sent k ≢ Some (Sequence l.row.kept))));
-  others : (k : ℕ) (w : PlaceSet) → slice_get l.waits k ≡ Some w → (v : PlaceSet) × (slice_get l.fn.waits k ≡ Some v) × ((i : ℕ) → i ≢ l.place → has w i ≡ has v i);
+  here : (k : ℕ) (p : Peer) (w : PlaceSet) → k < l.k → slice_get l.peers k ≡ Some p → slice_get l.waits k ≡ Some w → (has w l.prefix_at ≡ true ↔ ((p.up ≡ true) × (slice_get l.row.sent k ≢ Some (Sequence l.row.kept))));
+  others : (k : ℕ) (w : PlaceSet) → slice_get l.waits k ≡ Some w → (v : PlaceSet) × (slice_get l.fn.waits k ≡ Some v) × ((i : ℕ) → i ≢ l.prefix_at → has w i ≡ has v i);
 }

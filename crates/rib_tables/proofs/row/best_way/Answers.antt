@@ -35,41 +35,41 @@ returns-then-row-2 c = λ net is routers row. own_best net c.args.router c.args.
 pub returns-else-row-2 : goal.returns-else-row-2
 returns-else-row-2 c = λ net is routers row. own_none net c.args.router c.args.peers.now c.args.row.now is routers row c.if-row.true c.if-row-2.false
 
-pub loop-place-init : goal.loop-place-init
-loop-place-init c = λ table q is at speaks. nothing_heard c.args.peers.now c.as_slice-heard.result.now table q
+pub loop-peer_at-init : goal.loop-peer_at-init
+loop-peer_at-init c = λ table q is at speaks. nothing_heard c.args.peers.now c.as_slice-heard.result.now table q
 
-pub loop-place-preserved : goal.loop-place-preserved
-loop-place-preserved c = λ table q is at speaks.
+pub loop-peer_at-preserved : goal.loop-peer_at-preserved
+loop-peer_at-preserved c = λ table q is at speaks.
     let peers = c.args.peers.now in
     let heard = c.as_slice-heard.result.now in
-    let n = c.loop-place.place in
+    let n = c.loop-peer_at.peer_at in
     let x = get_or peers n (record { asn = 0; up = false }) in
-    let here = slice_get-get_or peers n (record { asn = 0; up = false }) c.loop-place-test.true in
+    let here = slice_get-get_or peers n (record { asn = 0; up = false }) c.loop-peer_at-test.true in
     let size : length heard ≡ length peers = ap (λ (ws : List Word). length ws) c.as_slice-heard.ensures ∙ c.requires in
     let order = c.each_policy_is_an_order.ensures table is q in
-    let before = c.loop-place.invariant table q is at speaks in
+    let before = c.loop-peer_at.invariant table q is at speaks in
     let Goal : List ℕ → Type 0 = λ b. IsFirstOrNone (RowHears peers heard (n + 1)) table q (path_by c.args.router b) in
     elim c.if-peer.branch [
       | then-peer w ↦
-          let word = slice_get_read heard (length peers) n w.index-heard-place.result (sym size) c.loop-place-test.true w.index-heard-place.is in
+          let word = slice_get_read heard (length peers) n w.index-heard-peer_at.result (sym size) c.loop-peer_at-test.true w.index-heard-peer_at.is in
           subst Goal (sym (ap (λ b. b.now) w.best-is))
           (better_is_first c.args.row.now.policy table q order speaks (RowHears peers heard n) (RowHears peers heard (n + 1)) x.asn w.path.result.now
-          (row_hears peers heard n x w.index-heard-place.result here word w.if-peer.true w.path.result.now w.path.ensures) c.args.router at c.loop-place.best.now w.better_onward-best.result.now w.better_onward-best.ensures before)
+          (row_hears peers heard n x w.index-heard-peer_at.result here word w.if-peer.true w.path.result.now w.path.ensures) c.args.router at c.loop-peer_at.best.now w.better_onward-best.result.now w.better_onward-best.ensures before)
       | else-peer w ↦
-          let word = slice_get-get_or heard n nothing (omega (arith, size, c.loop-place-test.true)) in
+          let word = slice_get-get_or heard n nothing (omega (arith, size, c.loop-peer_at-test.true)) in
           subst Goal (sym (ap (λ b. b.now) w.best-is))
-          (row_silent peers heard n x (get_or heard n nothing) here word (λ up. both_ways x.up w.if-peer.false up) table q (path_by c.args.router c.loop-place.best.now) before)
+          (row_silent peers heard n x (get_or heard n nothing) here word (λ up. both_ways x.up w.if-peer.false up) table q (path_by c.args.router c.loop-peer_at.best.now) before)
     ]
 
 pub returns-then-is_empty : goal.returns-then-is_empty
 returns-then-is_empty c =
-    let best = c.loop-place.best.now in
+    let best = c.loop-peer_at.best.now in
     let none : best ≡ [] = nil_from_length best (eqb-true (length best) 0 (sym c.is_empty.ensures ∙ c.if-is_empty.true)) in
-    best_of_all c.args.router c.args.peers.now c.args.row.now c.as_slice-heard.result.now c.loop-place.place best [] c.as_slice-heard.ensures (omega (arith, c.loop-place.auto.place-end, c.loop-place-test.false))
-    (path_by_none c.args.router best none) c.loop-place.invariant c.if-row.false
+    best_of_all c.args.router c.args.peers.now c.args.row.now c.as_slice-heard.result.now c.loop-peer_at.peer_at best [] c.as_slice-heard.ensures (omega (arith, c.loop-peer_at.auto.peer_at-end, c.loop-peer_at-test.false))
+    (path_by_none c.args.router best none) c.loop-peer_at.invariant c.if-row.false
 
 pub returns-else-is_empty : goal.returns-else-is_empty
 returns-else-is_empty c =
-    let best = c.loop-place.best.now in
-    best_of_all c.args.router c.args.peers.now c.args.row.now c.as_slice-heard.result.now c.loop-place.place best (c.args.router ∷ best) c.as_slice-heard.ensures (omega (arith, c.loop-place.auto.place-end, c.loop-place-test.false))
-    (path_by_some c.args.router best (not_empty best (sym c.is_empty.ensures ∙ c.if-is_empty.false))) c.loop-place.invariant c.if-row.false
+    let best = c.loop-peer_at.best.now in
+    best_of_all c.args.router c.args.peers.now c.args.row.now c.as_slice-heard.result.now c.loop-peer_at.peer_at best (c.args.router ∷ best) c.as_slice-heard.ensures (omega (arith, c.loop-peer_at.auto.peer_at-end, c.loop-peer_at-test.false))
+    (path_by_some c.args.router best (not_empty best (sym c.is_empty.ensures ∙ c.if-is_empty.false))) c.loop-peer_at.invariant c.if-row.false

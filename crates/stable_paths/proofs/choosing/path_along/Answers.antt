@@ -1,9 +1,8 @@
 use Rattle.std.proofs.Common.{sym, ◌∙◌, length}
 use Rattle.std.proofs.lemmas.Bool.{eqb-true}
 use Rattle.std.proofs.lemmas.List.{nil_from_length}
-use Rattle.ranked_policy.proofs.ChoiceLemmas.{path_by_some, path_by_none}
+use Rattle.ranked_policy.proofs.ChoiceLemmas.{path_by_none}
 use Rattle.stable_paths.proofs.choosing.path_along.Goals as goal
-use Rattle.ranked_policy.proofs.WaysOn.{not_empty}
 
 pub returns-then-is_empty : goal.returns-then-is_empty
 returns-then-is_empty c =

@@ -1,26 +1,29 @@
-use Rattle.std.proofs.Common.{◌≤◌, List, length, ◌∙◌, ap, subst, refl}
+use Rattle.std.proofs.Common.{◌≤◌, List, length, ◌∙◌, ap, subst}
 use Rattle.ranked_policy.specs.declared.network.NetRouter.{NetRouter}
 use Rattle.ranked_policy.specs.Plans.{Plan}
 use Rattle.stable_paths.specs.Stable.{path_of, IsBest}
-use Rattle.stable_paths.proofs.ListLemmas.{never}
-use Rattle.stable_paths.proofs.TableLemmas.{moving, settled_on, each_all}
+use Rattle.stable_paths.proofs.TableLemmas.{known_at, moving, settled_on, each_all}
 use Rattle.stable_paths.proofs.stability.check.Goals as goal
 
-pub returns-then-not-is_path : goal.returns-then-not-is_path
-returns-then-not-is_path c = (
-  c.in_ok-permit_all.ensures.ok,
-  moving c.each_policy_is_an_order.ensures c.args.instance.now c.network-network.ensures.problem.problem (path_of c.args.assignment.now) c.routers-router-items.result.now
-      (c.routers-router-items.ensures.value ∙ ap (λ (n : Plan). n.routers) c.network-network.ensures.value) c.loop-router.router-index c.router-item.result c.loop-router-test.true c.router-item.is
-      c.unwrap-table.result c.network-network.result.now c.network-network.ensures.value (rw c.unwrap-table.ensures at c.policies.ensures.value) c.path-has.result.now c.in_ok-best.best
-      c.in_ok-best.ensures.best (λ e. never (c.if-not-is_path.ensures.1 e)) c.path-has.ensures c.loop-router.invariant c.in_ok-from_slice.field-0 c.in_ok-from_slice.ensures.ok,
-)
+pub mover-requires : goal.mover-requires
+mover-requires c =
+    known_at c.args.instance.now c.routers-router-items.result.now (c.routers-router-items.ensures.value ∙ ap (λ (n : Plan). n.routers) c.network-network.ensures.value) c.loop-router.router-index c.router-item.result
+    c.loop-router-test.true c.router-item.is
+
+pub returns-in-Some : goal.returns-in-Some
+returns-in-Some c =
+    let found = rw c.in-Some.is at c.in_ok-mover.ensures.mover in (
+      c.in_ok-permit_all.ensures.ok,
+      moving c.each_policy_is_an_order.ensures c.args.instance.now c.network-network.ensures.problem.problem (path_of c.args.assignment.now) c.routers-router-items.result.now
+          (c.routers-router-items.ensures.value ∙ ap (λ (n : Plan). n.routers) c.network-network.ensures.value) c.loop-router.router-index c.router-item.result c.loop-router-test.true c.router-item.is c.in-Some.mover found.0 found.1
+          c.loop-router.invariant,
+    )
 
 pub loop-router-preserved : goal.loop-router-preserved
 loop-router-preserved c =
     settled_on c.args.instance.now (path_of c.args.assignment.now) c.routers-router-items.result.now
     (c.routers-router-items.ensures.value ∙ ap (λ (n : Plan). n.routers) c.network-network.ensures.value) c.loop-router.router-index c.router-item.result c.loop-router-test.true c.router-item.is
-    c.unwrap-table.result c.network-network.result.now c.network-network.ensures.value (rw c.unwrap-table.ensures at c.policies.ensures.value) c.path-has.result.now c.in_ok-best.best
-    c.in_ok-best.ensures.best (c.if-not-is_path.ensures.0 refl) c.path-has.ensures c.loop-router.invariant
+    (rw c.in-None.is at c.in_ok-mover.ensures.mover) c.loop-router.invariant
 
 pub returns : goal.returns
 returns c = (

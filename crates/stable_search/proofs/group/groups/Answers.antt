@@ -1,29 +1,57 @@
-use Rattle.std.proofs.Common.{sym, subst}
-use Rattle.std.specs.List.{All}
+use Rattle.std.proofs.Common.{◌≡◌, ◌∙◌, ℕ, List, length, sym, subst}
 use Rattle.std.proofs.lemmas.Result.{err_from_is_err_and}
-use Rattle.stable_search.specs.Groups.{IsGroup, AreGroups}
+use Rattle.stable_search.specs.Following.{AreLevels}
+use Rattle.stable_search.specs.Groups.{FoundGroups}
+use Rattle.stable_search.specs.Led.{HaveLed}
+use Rattle.stable_search.proofs.LedLemmas.{led_by_none}
 use Rattle.stable_search.proofs.NarrowLemmas.{narrows_then}
-use Rattle.stable_search.proofs.PartLemmas.{groups_before, refused_before, found_before}
+use Rattle.stable_search.proofs.PartLemmas.{refused_before}
 use Rattle.stable_search.proofs.group.groups.Goals as goal
+
+pub returns-in_err-first : goal.returns-in_err-first
+returns-in_err-first c =
+    let p = err_from_is_err_and c.from_residual-in_err-first.result c.from_residual-in_err-first.ensures.1 in
+    rw (p.1, p.2)
+    (refused_before c.args.seats.now c.args.ways.now c.args.sets.now c.narrow_all.new.sets c.args.limits.now.most c.in_err-first.field-0.0 c.narrow_all.ensures c.in_err-first.ensures.refused)
 
 pub returns-in_err-groups : goal.returns-in_err-groups
 returns-in_err-groups c =
-    let p = err_from_is_err_and c.from_residual.result c.from_residual.ensures.1 in
+    let p = err_from_is_err_and c.from_residual-in_err-groups.result c.from_residual-in_err-groups.ensures.1 in
+    let narrows = narrows_then c.args.ways.now c.args.sets.now c.narrow_all.new.sets c.first_groups.new.sets c.narrow_all.ensures c.in_ok-first.ensures.narrows in
     rw (p.1, p.2)
-    (refused_before c.args.seats.now c.args.ways.now c.args.sets.now c.narrow_all.new.sets c.args.limits.now.most c.in_err-groups.field-0.0 c.narrow_all.ensures c.in_err-groups.ensures)
+    (refused_before c.args.seats.now c.args.ways.now c.args.sets.now c.first_groups.new.sets c.args.limits.now.most c.in_err-groups.field-0.0 narrows c.in_err-groups.ensures.refused)
 
-pub keep_picked-requires : goal.keep_picked-requires
-keep_picked-requires c = subst (All (IsGroup c.narrow_all.new.sets)) (sym c.as_slice.ensures.value) c.in_ok-groups.ensures.0.each
+pub returns-in_err-groups-in-None : goal.returns-in_err-groups-in-None
+returns-in_err-groups-in-None c =
+    let p = err_from_is_err_and c.from_residual-in_err-groups-in-None.result c.from_residual-in_err-groups-in-None.ensures.1 in
+    let narrows = narrows_then c.args.ways.now c.args.sets.now c.narrow_all.new.sets c.first_groups.new.sets c.narrow_all.ensures c.in_ok-first.ensures.narrows in
+    rw (p.1, p.2)
+    (refused_before c.args.seats.now c.args.ways.now c.args.sets.now c.first_groups.new.sets c.args.limits.now.most c.in_err-groups-in-None.field-0.0 narrows c.in_err-groups-in-None.ensures)
 
-pub returns-then-not-keep_picked : goal.returns-then-not-keep_picked
-returns-then-not-keep_picked c = (
-  groups_before c.args.ways.now c.args.sets.now c.narrow_all.new.sets c.in_ok-groups.groups.items c.narrow_all.ensures c.in_ok-groups.ensures.0,
-  c.in_ok-groups.ensures.1,
-)
+pub returns-in-Some : goal.returns-in-Some
+returns-in-Some c =
+    let ways = c.args.ways.now in
+    let levels = c.in_ok-levels.levels.items in
+    let groups = c.in-Some.groups.items in
+    let found = rw c.in-Some.is at c.in_ok-groups.ensures.found in
+    let have : HaveLed ways c.args.sets.now c.first_groups.new.sets levels c.args.limits.now.most groups =
+    subst (λ (ls : List ℕ). HaveLed ways c.args.sets.now c.first_groups.new.sets ls c.args.limits.now.most groups) c.as_slice.ensures.value
+    (found c.args.sets.now c.narrow_all.new.sets c.narrow_all.ensures c.in_ok-first.ensures.narrows (subst (AreLevels ways c.narrow_all.new.sets) (sym c.as_slice.ensures.value) c.in_ok-levels.ensures)) in
+    (c.first_groups.new.sets, have)
+
+pub returns-in-Some-first : goal.returns-in-Some-first
+returns-in-Some-first c =
+    let ways = c.args.ways.now in
+    let groups = c.in-Some-first.groups.items in
+    let found : FoundGroups ways c.narrow_all.new.sets c.args.limits.now.most groups = rw c.in-Some-first.is at c.in_ok-first.ensures.found in
+    let size : length c.in_ok-levels-2.levels.items ≡ length found.0 = c.in_ok-levels-2.ensures.0 ∙ c.in_ok-first.ensures.narrows.size ∙ sym found.1.size in
+    let before = narrows_then ways c.args.sets.now c.narrow_all.new.sets found.0 c.narrow_all.ensures found.1 in
+    (found.0, (led_by_none ways c.args.sets.now found.0 c.in_ok-levels-2.levels.items groups before size c.in_ok-levels-2.ensures.1 found.2.0, found.2.1))
 
 pub returns : goal.returns
 returns c =
     let ways = c.args.ways.now in
-    let kept = c.keep_picked.ensures ways (subst (AreGroups ways c.narrow_all.new.sets) (sym c.as_slice.ensures.value) c.in_ok-groups.ensures.0) in
-    let narrows = narrows_then ways c.args.sets.now c.narrow_all.new.sets c.keep_picked.new.sets c.narrow_all.ensures kept in
-    found_before c.args.seats.now ways c.args.sets.now c.keep_picked.new.sets c.args.limits.now.most c.groups_of-2.result narrows c.groups_of-2.ensures
+    let groups = c.in_ok-groups-in-None.groups.items in
+    let have = c.in_ok-groups-in-None.ensures in
+    let before = narrows_then ways c.args.sets.now c.narrow_all.new.sets c.first_groups.new.sets c.narrow_all.ensures c.in_ok-first.ensures.narrows in
+    (c.first_groups.new.sets, (led_by_none ways c.args.sets.now c.first_groups.new.sets c.in_ok-levels-2.levels.items groups before c.in_ok-levels-2.ensures.0 c.in_ok-levels-2.ensures.1 have.0, have.1))

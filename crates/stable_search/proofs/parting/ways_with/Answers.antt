@@ -1,9 +1,10 @@
-use Rattle.std.proofs.Common.{◌∙◌, List, length, ap, sym, subst}
+use Rattle.std.proofs.Common.{◌∙◌, ℕ, List, length, get_or, ap, sym, subst}
+use Rattle.std.specs.List.{All}
 use Rattle.std.proofs.lemmas.List.{take_all}
 use Rattle.std.proofs.lemmas.List.Elements.{All-push}
 use Rattle.stable_search.specs.declared.way.Way.{Way}
 use Rattle.stable_search.specs.Picks.{IsWithin, AreWithin}
-use Rattle.stable_search.specs.Parting.{KeepsPart}
+use Rattle.stable_search.specs.Parting.{InPart, KeepsPart}
 use Rattle.stable_search.proofs.PartLemmas.{part_add, part_skip, within_copy}
 use Rattle.stable_search.proofs.parting.ways_with.Goals as goal
 use Rattle.stable_search.proofs.parting.ways_with.Goals.{then-labels-way+then-labels-way-2+in_ok-copied+in_ok-push, else-labels-way, else-labels-way-via-then-labels-way+else-labels-way-2, else-labels-way-via-else-labels-way}
@@ -26,6 +27,8 @@ loop-way-preserved c =
           let added = ap (λ v. v.items) w.part-is ∙ w.in_ok-push.ensures.items in (
             subst (AreWithin (length labels)) (sym added) (All-push (IsWithin (length labels)) old copy inv.0 (within_copy (length labels) way copy same.0 same.1 same.2 w_in)),
             part_add labels label ways i way c.loop-way-test.true c.way-item.is old new copy same.0 same.1 same.2 added (w.if-labels-way.true, w.if-labels-way-2.true) inv.1,
+            subst (All (InPart labels label)) (sym added)
+                (All-push (InPart labels label) old copy inv.2 (ap (λ (n : ℕ). get_or labels n 0) same.0 ∙ w.if-labels-way.true, ap (λ (n : ℕ). get_or labels n 0) same.1 ∙ w.if-labels-way-2.true)),
           )
       | else-labels-way w ↦
           let kept = ap (λ v. v.items) w.part-is in (
@@ -36,6 +39,7 @@ loop-way-preserved c =
                   | else-labels-way-via-else-labels-way v ↦ v.if-labels-way.false inside.0
                 ])
                 inv.1,
+            subst (All (InPart labels label)) (sym kept) inv.2,
           )
     ]
 

@@ -13,10 +13,10 @@ returns-then-not-fits_all-clause-all c = λ sets is.
 
 pub returns-clause-all : goal.returns-clause-all
 returns-clause-all c = λ sets is.
-    adds_one c.args.ways.now sets c.args.pick c.args.found.now.items c.push.new.self.items c.in-Ok.ensures.items is
+    adds_one c.args.ways.now sets c.args.pick c.args.found.now.items c.push-pushed.new.self.items c.in-Ok.ensures.items is
     (subst (λ (p : List ℕ). All (FitsWay p) c.args.ways.now) c.as_slice.ensures (c.if-not-fits_all.ensures.0 refl))
 
-pub returns-then-len-most-clause-full : goal.returns-then-len-most-clause-full
-returns-then-len-most-clause-full c = λ sets is.
-    more_one c.args.ways.now sets c.args.pick c.args.most c.args.found.now.items (omega arith) is
+pub returns-then-is_full-clause-full : goal.returns-then-is_full-clause-full
+returns-then-is_full-clause-full c = λ sets is.
+    more_one c.args.ways.now sets c.args.pick c.args.most c.args.found.now.items (omega (arith, c.if-is_full.true)) is
     (subst (λ (p : List ℕ). All (FitsWay p) c.args.ways.now) c.as_slice.ensures (c.if-not-fits_all.ensures.0 refl))

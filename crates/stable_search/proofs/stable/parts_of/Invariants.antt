@@ -9,4 +9,4 @@ use Rattle.stable_search.proofs.stable.parts_of.Given as goal
 abbrev pub invariant-loop-group : goal.invariant-loop-group
 invariant-loop-group l =
     (length l.parts.items ≡ l.group-index)
-    × ((g : ℕ) (group : Group) (part : Component) → g < l.group-index → StandsAt l.groups g group → StandsAt l.parts.items g part → IsPartOf l.seats group part)
+    × ((g : ℕ) (group : Group) (part : Component) → g < l.group-index → StandsAt l.groups g group → StandsAt l.parts.items g part → IsPartOf l.seats l.levels group part)

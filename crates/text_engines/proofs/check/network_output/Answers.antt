@@ -14,7 +14,7 @@ returns-in-Ok-read_assignment c =
       inr (
         c.in-Ok-read_assignment.entries,
         c.in-Ok-read_assignment.ensures.ok,
-        subst (λ (entries : List Entry). EntriesGive c.in-Ok.network entries (output printed.0.items printed.1)) c.as_slice.ensures gives,
+        subst (λ (entries : List Entry). EntriesGive c.args.lists_all c.in-Ok.network entries (output printed.0.items printed.1)) c.as_slice.ensures gives,
       ),
     ))
     c.entries_output.ensures

@@ -2,7 +2,7 @@ use Rattle.std.proofs.Common.{◌≡◌, ◌≤◌, [], ap, sym, refl, arith, le
 use Rattle.outbox.specs.declared.item.Item.{Item}
 use Rattle.ruled_pipe.specs.Ends.{End}
 use Rattle.net_workers.specs.Lanes.{put_of, room_of}
-use Rattle.net_workers.proofs.Lanes.{Here, has_here, missing, kept, same_wires}
+use Rattle.net_workers.proofs.Lanes.{Here, has_here, missing, kept, same_wiring}
 use Rattle.net_workers.proofs.worker_pipes.WorkerPipesPipes.is_full.Goals as goal
 
 pub returns-in_default-clause-full : goal.returns-in_default-clause-full
@@ -41,4 +41,4 @@ returns-clause-wiring c =
     let old = c.index_mut.result.now in
     let here : Here c.args.self.now.pairs.items c.args.peer c.in-Some.at old = record { at = c.in-Some.ensures.1; is = c.index_mut.ensures.value } in
     let same = c.is_full.ensures.same in
-    same_wires c.args.self.now.pairs.items c.args.peer c.in-Some.at _ old here (λ i. record { peer = old.peer; out = (same i).pipe; room = (same i).room; into = old.into.pipe })
+    same_wiring c.args.self.now.pairs.items c.args.self.now.order.items c.args.peer c.in-Some.at _ old here (λ i. record { peer = old.peer; out = (same i).pipe; room = (same i).room; into = old.into.pipe })

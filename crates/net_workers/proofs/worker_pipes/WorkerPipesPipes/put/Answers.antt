@@ -2,7 +2,7 @@ use Rattle.std.proofs.Common.{◌≡◌, ◌≤◌, [], ap, sym, refl, arith, le
 use Rattle.outbox.specs.declared.item.Item.{Item}
 use Rattle.ruled_pipe.specs.Ends.{End}
 use Rattle.net_workers.specs.Lanes.{put_of, room_of}
-use Rattle.net_workers.proofs.Lanes.{Here, has_here, missing, kept, grows, same_wires, on_ok, on_err, same_pipe}
+use Rattle.net_workers.proofs.Lanes.{Here, has_here, missing, kept, grows, same_wiring, on_ok, on_err, same_pipe}
 use Rattle.net_workers.proofs.worker_pipes.WorkerPipesPipes.put.Goals as goal
 
 pub returns-in_default-clause-full : goal.returns-in_default-clause-full
@@ -47,4 +47,4 @@ returns-clause-wiring g c =
     let old = c.index_mut.result.now in
     let here : Here c.args.self.now.pairs.items c.args.peer c.in-Some.at old = record { at = c.in-Some.ensures.1; is = c.index_mut.ensures.value } in
     let same = same_pipe c.put.result old.out c.put.new.self c.args.item c.put.ensures.ok c.put.ensures.err in
-    same_wires c.args.self.now.pairs.items c.args.peer c.in-Some.at _ old here (λ i. record { peer = old.peer; out = same.0 i; room = same.1 i; into = old.into.pipe })
+    same_wiring c.args.self.now.pairs.items c.args.self.now.order.items c.args.peer c.in-Some.at _ old here (λ i. record { peer = old.peer; out = same.0 i; room = same.1 i; into = old.into.pipe })

@@ -1,7 +1,7 @@
 use Rattle.std.proofs.Common.{[], ap, refl}
 use Rattle.outbox.specs.declared.item.Item.{Item}
 use Rattle.ruled_pipe.specs.Ends.{End}
-use Rattle.net_workers.proofs.Lanes.{Here, kept, grows, same_wires, on_some, same_pipe_taken}
+use Rattle.net_workers.proofs.Lanes.{Here, kept, grows, same_wiring, on_some, same_pipe_taken}
 use Rattle.net_workers.proofs.worker_pipes.WorkerPipesPipes.take.Goals as goal
 
 pub returns-clause-taken : goal.returns-clause-taken
@@ -30,4 +30,4 @@ returns-clause-wiring g c =
     let old = c.index_mut.result.now in
     let here : Here c.args.self.now.pairs.items c.args.peer c.in_ok-at.at old = record { at = c.in_ok-at.ensures.1; is = c.index_mut.ensures.value } in
     let same = same_pipe_taken c.take.result old.into c.take.new.self c.take.ensures.taken in
-    same_wires c.args.self.now.pairs.items c.args.peer c.in_ok-at.at _ old here (λ i. record { peer = old.peer; out = old.out.pipe; room = old.out.room; into = same i })
+    same_wiring c.args.self.now.pairs.items c.args.self.now.order.items c.args.peer c.in_ok-at.at _ old here (λ i. record { peer = old.peer; out = old.out.pipe; room = old.out.room; into = same i })

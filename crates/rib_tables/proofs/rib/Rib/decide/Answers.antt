@@ -11,11 +11,11 @@ use Rattle.rib_tables.proofs.rib.Rib.decide.Goals as goal
 use Rattle.rib_tables.proofs.rib.Rib.decide.Goals.{In-Some}
 
 -- the place is one of a row
-below : (c : In-Some) → (c.in-Some.place < length c.self.inside.rows.items) × (c.in-Some.place < 256)
+below : (c : In-Some) → (c.in-Some.prefix_at < length c.self.inside.rows.items) × (c.in-Some.prefix_at < 256)
 below c =
     let s = c.self.inside in
     let net = s.network.now in
-    let place = c.in-Some.place in
+    let place = c.in-Some.prefix_at in
     let first = found_first net s.router s.peers.items s.keys.keys s.rows.items s.dirty s.waits.items c.self.invariant c.as_slice-peers.result.now c.as_slice-rows.result.now c.as_slice-peers.ensures.value c.as_slice-rows.ensures.value place (c.in-Some.ensures.least net) in
     place_below net s.router s.peers.items s.keys.keys s.rows.items s.dirty s.waits.items c.self.invariant place first.row first.at
 
@@ -49,7 +49,7 @@ pub returns-in_err-best-clause-pending : goal.returns-in_err-best-clause-pending
 returns-in_err-best-clause-pending c =
     let s = c.self.inside in
     let net = s.network.now in
-    let place = c.in-Some.place in
+    let place = c.in-Some.prefix_at in
     let first = found_first net s.router s.peers.items s.keys.keys s.rows.items s.dirty s.waits.items c.self.invariant c.as_slice-peers.result.now c.as_slice-rows.result.now c.as_slice-peers.ensures.value c.as_slice-rows.ensures.value place (c.in-Some.ensures.least net) in
     if_refused c.from_residual.result (
       first.row.prefix,
@@ -66,7 +66,7 @@ keep_at-prefix-requires-clause-place c = (below (goal.at.keep_at-prefix-requires
 pub keep_at-prefix-requires-clause-sent : goal.keep_at-prefix-requires-clause-sent
 keep_at-prefix-requires-clause-sent c =
     let s = c.self.inside in
-    λ r at. (c.self.invariant.whole.each c.in-Some.place r at).sent ∙ ap (λ (ps : List Peer). length ps) (sym c.as_slice-peers.ensures.value)
+    λ r at. (c.self.invariant.whole.each c.in-Some.prefix_at r at).sent ∙ ap (λ (ps : List Peer). length ps) (sym c.as_slice-peers.ensures.value)
 
 pub take_out-requires : goal.take_out-requires
 take_out-requires c = (below (goal.at.take_out-requires c).In-Some).1
@@ -75,7 +75,7 @@ pub invariant_of-self-2 : goal.invariant_of-self-2
 invariant_of-self-2 c =
     let s = c.self.inside in
     let net = s.network.now in
-    let place = c.in-Some.place in
+    let place = c.in-Some.prefix_at in
     let first = found_first net s.router s.peers.items s.keys.keys s.rows.items s.dirty s.waits.items c.self.invariant c.as_slice-peers.result.now c.as_slice-rows.result.now c.as_slice-peers.ensures.value c.as_slice-rows.ensures.value place (c.in-Some.ensures.least net) in
     let rib = left_rib net s.router s.peers.items s.keys.keys s.rows.items s.dirty s.waits.items c.self.invariant c.as_slice-peers.result.now c.as_slice-rows.result.now c.as_slice-peers.ensures.value c.as_slice-rows.ensures.value c.first_undecided-found.new.dirty (c.in-Some.ensures.decided net) in
     let best = found_best net s.router s.peers.items s.keys.keys s.rows.items s.dirty s.waits.items c.self.invariant c.as_slice-peers.result.now c.as_slice-rows.result.now c.as_slice-peers.ensures.value c.as_slice-rows.ensures.value place c.in-Some.way (λ rest. s.router ∷ rest.now) c.in_ok-best.best first.row first.at (c.in-Some.ensures.best net) c.in_ok-best.ensures in
@@ -86,7 +86,7 @@ pub returns-clause-least : goal.returns-clause-least
 returns-clause-least c =
     let s = c.self.inside in
     let net = s.network.now in
-    let place = c.in-Some.place in
+    let place = c.in-Some.prefix_at in
     let first = found_first net s.router s.peers.items s.keys.keys s.rows.items s.dirty s.waits.items c.self.invariant c.as_slice-peers.result.now c.as_slice-rows.result.now c.as_slice-peers.ensures.value c.as_slice-rows.ensures.value place (c.in-Some.ensures.least net) in
     subst (λ (v : RibView). IsLeastWithout v.net.origins (IsSettled v) c.keep_at-prefix.result) c.self.view_is
     (subst (λ (q : PrefixView). IsLeastWithout net.origins (IsSettled (view_of net s.router s.peers.items s.rows.items)) q) (sym (c.keep_at-prefix.ensures.prefix first.row first.at))
@@ -96,7 +96,7 @@ pub returns-clause-decides : goal.returns-clause-decides
 returns-clause-decides c =
     let s = c.self.inside in
     let net = s.network.now in
-    let place = c.in-Some.place in
+    let place = c.in-Some.prefix_at in
     let first = found_first net s.router s.peers.items s.keys.keys s.rows.items s.dirty s.waits.items c.self.invariant c.as_slice-peers.result.now c.as_slice-rows.result.now c.as_slice-peers.ensures.value c.as_slice-rows.ensures.value place (c.in-Some.ensures.least net) in
     let rib = left_rib net s.router s.peers.items s.keys.keys s.rows.items s.dirty s.waits.items c.self.invariant c.as_slice-peers.result.now c.as_slice-rows.result.now c.as_slice-peers.ensures.value c.as_slice-rows.ensures.value c.first_undecided-found.new.dirty (c.in-Some.ensures.decided net) in
     let best = found_best net s.router s.peers.items s.keys.keys s.rows.items s.dirty s.waits.items c.self.invariant c.as_slice-peers.result.now c.as_slice-rows.result.now c.as_slice-peers.ensures.value c.as_slice-rows.ensures.value place c.in-Some.way (λ rest. s.router ∷ rest.now) c.in_ok-best.best first.row first.at (c.in-Some.ensures.best net) c.in_ok-best.ensures in

@@ -13,8 +13,8 @@ use Rattle.rib_tables.proofs.rib.Rib.is_originated_at.Goals as goal
 pub index-requires : goal.index-requires
 index-requires c =
     let s = c.self.inside in
-    let x = row_at_place s.network.now s.router s.peers.items s.keys.keys s.rows.items c.self.invariant.whole c.args.self.now c.self.view_is c.args.prefix.now c.args.at c.requires.stands in
-    let lt = slice_get_within s.rows.items c.args.at x.0 x.1 in
+    let x = row_at_place s.network.now s.router s.peers.items s.keys.keys s.rows.items c.self.invariant.whole c.args.self.now c.self.view_is c.args.prefix.now c.args.prefix_at c.requires.stands in
+    let lt = slice_get_within s.rows.items c.args.prefix_at x.0 x.1 in
     let len : length s.rows.items ≡ s.rows.len = search rules in
     omega (arith, lt, len)
 
@@ -22,9 +22,9 @@ pub returns : goal.returns
 returns c =
     let s = c.self.inside in
     let q = c.args.prefix.now in
-    let x = row_at_place s.network.now s.router s.peers.items s.keys.keys s.rows.items c.self.invariant.whole c.args.self.now c.self.view_is q c.args.at c.requires.stands in
-    let row : c.index.result.now ≡ x.0 = c.index.ensures ∙ get_or_from_slice_get s.rows.items c.args.at x.0 c.index.result.now x.1 in
+    let x = row_at_place s.network.now s.router s.peers.items s.keys.keys s.rows.items c.self.invariant.whole c.args.self.now c.self.view_is q c.args.prefix_at c.requires.stands in
+    let row : c.index.result.now ≡ x.0 = c.index.ensures ∙ get_or_from_slice_get s.rows.items c.args.prefix_at x.0 c.index.result.now x.1 in
     subst (λ (v : RibView). IsTrue c.index.result.now.originated ↔ Contains v.originated q) c.self.view_is
     (subst (λ (r : Row). IsTrue r.originated ↔ Contains (originated_in s.rows.items) q) (sym row)
     (subst (λ (p : PrefixView). IsTrue x.0.originated ↔ Contains (originated_in s.rows.items) p) x.2
-    (originated_here s.network.now s.router s.peers.items s.keys.keys s.rows.items c.self.invariant.whole c.args.at x.0 x.1)))
+    (originated_here s.network.now s.router s.peers.items s.keys.keys s.rows.items c.self.invariant.whole c.args.prefix_at x.0 x.1)))

@@ -9,8 +9,8 @@ use Rattle.rib_tables.proofs.rib.Rib.path.Goals as goal
 pub path_at-requires : goal.path_at-requires
 path_at-requires c =
     let s = c.self.inside in
-    let stands = place_at_key s.network.now s.router s.peers.items s.keys.keys s.rows.items c.self.invariant.whole c.args.prefix.now c.in-Some.place c.in-Some.ensures in
-    record { stands = subst (λ (v : RibView). slice_get (map (λ o. o.prefix) v.net.origins) c.in-Some.place ≡ Some c.args.prefix.now) c.self.view_is stands }
+    let stands = place_at_key s.network.now s.router s.peers.items s.keys.keys s.rows.items c.self.invariant.whole c.args.prefix.now c.in-Some.prefix_at c.in-Some.ensures in
+    record { stands = subst (λ (v : RibView). slice_get (map (λ o. o.prefix) v.net.origins) c.in-Some.prefix_at ≡ Some c.args.prefix.now) c.self.view_is stands }
 
 pub returns-in-None : goal.returns-in-None
 returns-in-None c =

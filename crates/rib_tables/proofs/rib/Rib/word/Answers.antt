@@ -22,27 +22,27 @@ returns-in_err-from c =
     rw c.from_residual.ensures (words_seen s.network.now s.router s.peers.items s.rows.items c.args.sent c.args.self.now c.self.view_is (λ (ws : Words). word_of ws v q ≡ nothing)
     (no_peer v q (line_of c.args.sent) s.peers.items s.rows.items (λ k p at e. c.in_err-from.ensures k p (ap (λ (ps : List Peer). slice_get ps k) c.as_slice.ensures.value ∙ at) e)))
 
-pub returns-in_err-place : goal.returns-in_err-place
-returns-in_err-place c =
+pub returns-in_err-prefix_at : goal.returns-in_err-prefix_at
+returns-in_err-prefix_at c =
     let s = c.self.inside in
     let v = c.args.peer in
     let q = c.args.prefix.now in
-    rw c.from_residual-in_err-place.ensures (words_seen s.network.now s.router s.peers.items s.rows.items c.args.sent c.args.self.now c.self.view_is (λ (ws : Words). word_of ws v q ≡ nothing)
-    (no_row v q (line_of c.args.sent) s.peers.items s.rows.items (key_none s.network.now s.router s.peers.items s.keys.keys s.rows.items c.self.invariant.whole q c.in_err-place.ensures)))
+    rw c.from_residual-in_err-prefix_at.ensures (words_seen s.network.now s.router s.peers.items s.rows.items c.args.sent c.args.self.now c.self.view_is (λ (ws : Words). word_of ws v q ≡ nothing)
+    (no_row v q (line_of c.args.sent) s.peers.items s.rows.items (key_none s.network.now s.router s.peers.items s.keys.keys s.rows.items c.self.invariant.whole q c.in_err-prefix_at.ensures)))
 
 pub index-requires : goal.index-requires
 index-requires c =
     let s = c.self.inside in
-    let x = row_at s.keys.keys s.rows.items c.self.invariant.whole.listed c.in_ok-place.place c.args.prefix.now c.in_ok-place.ensures in
-    let lt = slice_get_within s.rows.items c.in_ok-place.place x.0 x.1 in
+    let x = row_at s.keys.keys s.rows.items c.self.invariant.whole.listed c.in_ok-prefix_at.prefix_at c.args.prefix.now c.in_ok-prefix_at.ensures in
+    let lt = slice_get_within s.rows.items c.in_ok-prefix_at.prefix_at x.0 x.1 in
     let len : length s.rows.items ≡ s.rows.len = search rules in
     omega (arith, lt, len)
 
 pub something-requires : goal.something-requires
 something-requires c =
     let s = c.self.inside in
-    let place = c.in_ok-place.place in
-    let x = row_at s.keys.keys s.rows.items c.self.invariant.whole.listed place c.args.prefix.now c.in_ok-place.ensures in
+    let place = c.in_ok-prefix_at.prefix_at in
+    let x = row_at s.keys.keys s.rows.items c.self.invariant.whole.listed place c.args.prefix.now c.in_ok-prefix_at.ensures in
     let row : c.index.result.now ≡ x.0 = c.index.ensures ∙ get_or_from_slice_get s.rows.items place x.0 c.index.result.now x.1 in
     let peer = c.in_ok-from.ensures in
     let lt = slice_get_within s.peers.items c.in_ok-from.from peer.0 (ap (λ (ps : List Peer). slice_get ps c.in_ok-from.from) (sym c.as_slice.ensures.value) ∙ peer.1) in
@@ -55,9 +55,9 @@ returns c =
     let s = c.self.inside in
     let v = c.args.peer in
     let q = c.args.prefix.now in
-    let place = c.in_ok-place.place in
+    let place = c.in_ok-prefix_at.prefix_at in
     let from = c.in_ok-from.from in
-    let x = row_at s.keys.keys s.rows.items c.self.invariant.whole.listed place q c.in_ok-place.ensures in
+    let x = row_at s.keys.keys s.rows.items c.self.invariant.whole.listed place q c.in_ok-prefix_at.ensures in
     let row : c.index.result.now ≡ x.0 = c.index.ensures ∙ get_or_from_slice_get s.rows.items place x.0 c.index.result.now x.1 in
     let peer = c.in_ok-from.ensures in
     let there = ap (λ (ps : List Peer). slice_get ps from) (sym c.as_slice.ensures.value) ∙ peer.1 in

@@ -43,9 +43,9 @@ returns-clause-answers c = λ command is g e ranks.
     let p = c.index.result.now in
     let sketch = c.drafted-made.result in
     let found = c.in-Some.ensures.place in
-    let here = c.index.ensures ∙ ap (λ (w : RouterView). get_or w.peers c.in-Some.at p) c.self.view_is in
+    let here = c.index.ensures ∙ ap (λ (w : RouterView). get_or w.peers c.in-Some.peer_at p) c.self.view_is in
     let made = subst (λ (w : RouterView). draft w.own_open NoMessage sketch ≡ draft_by c.args.event w.own_open (side p.end)) c.self.view_is c.drafted-made.ensures in
-    obeys g x (plain_of c.carry_out.new.self) v c.in-Some.at p (draft x.own_open NoMessage sketch) c.carry_out.result (of_sound g x (subst IsSound c.self.view_is c.self.invariant) e) found.2 here found.1 c.args.event command is made
+    obeys g x (plain_of c.carry_out.new.self) v c.in-Some.peer_at p (draft x.own_open NoMessage sketch) c.carry_out.result (of_sound g x (subst IsSound c.self.view_is c.self.invariant) e) found.2 here found.1 c.args.event command is made
     (subst (λ (w : RouterView). Carries c.carry_out.result x v NoMessage (draft x.own_open NoMessage sketch) sketch.overflows (w.stamp + 1) c.carry_out.new.self) c.self.view_is c.carry_out.ensures.carries)
 
 refuses : (g : Setting) (u v : ℕ) (x : Stamped) → linked g.net u v ≡ false → (e : SessionEvent) (c : Command) → IsCommanded e v c → Gives g u (Err error.NoSuchPeer) (answer g u x (Obey c)) x (Obey c) x
@@ -64,7 +64,7 @@ carry_out-requires-clause-fresh c = λ o.
     let r = view_of c.self.inside in
     let p = c.index.result.now in
     let made = c.drafted-made.result in
-    let found = subst (λ (x : RouterView). IsFound x.peers c.args.peer c.in-Some.at) (sym c.self.view_is) c.in-Some.ensures.place in
+    let found = subst (λ (x : RouterView). IsFound x.peers c.args.peer c.in-Some.peer_at) (sym c.self.view_is) c.in-Some.ensures.place in
     subst (λ (x : RouterView). KeepsFresh (sides_of x c.args.peer) NoMessage (draft x.own_open NoMessage made)) c.self.view_is
-    (keeps_here r c.args.peer c.in-Some.at p found.2 c.index.ensures c.self.invariant (draft r.own_open NoMessage made) (draft_by c.args.event r.own_open (side p.end)) c.drafted-made.ensures
+    (keeps_here r c.args.peer c.in-Some.peer_at p found.2 c.index.ensures c.self.invariant (draft r.own_open NoMessage made) (draft_by c.args.event r.own_open (side p.end)) c.drafted-made.ensures
     (λ f. event_keeps c.sessions_keep_fresh.ensures c.args.event r.own_open (side p.end) f (ap (λ (a : Draft). a.overflows) (sym c.drafted-made.ensures) ∙ o)))

@@ -16,9 +16,9 @@ use Rattle.router_core.proofs.router.Router.front.Goals as goal
 pub returns-then-not-is_waiting : goal.returns-then-not-is_waiting
 returns-then-not-is_waiting c =
     let r = view_of c.self.inside in
-    let here : sides_of c.args.self.now c.args.peer ≡ side c.index.result.now.end = stands r c.args.self.now c.args.peer c.in_ok-at.at c.index.result.now c.self.view_is c.in_ok-at.ensures.place c.index.ensures in
+    let here : sides_of c.args.self.now c.args.peer ≡ side c.index.result.now.end = stands r c.args.self.now c.args.peer c.in_ok-peer_at.peer_at c.index.result.now c.self.view_is c.in_ok-peer_at.ensures.place c.index.ensures in
     let waits : is_waiting (sides_of c.args.self.now c.args.peer).held ≡ false = ap (λ (s : Side). is_waiting s.held) here ∙ sym c.is_waiting.ensures ∙ c.if-not-is_waiting.true in
-    rw (c.in_ok-at.ensures.none, waits) refl
+    rw (c.in_ok-peer_at.ensures.none, waits) refl
 
 pub returns : goal.returns
 returns c =
@@ -26,7 +26,7 @@ returns c =
     let x = c.args.self.now in
     let v = c.args.peer in
     let end = c.index.result.now.end in
-    let here : sides_of x v ≡ side end = stands r x v c.in_ok-at.at c.index.result.now c.self.view_is c.in_ok-at.ensures.place c.index.ensures in
+    let here : sides_of x v ≡ side end = stands r x v c.in_ok-peer_at.peer_at c.index.result.now c.self.view_is c.in_ok-peer_at.ensures.place c.index.ensures in
     let waits : is_waiting (sides_of x v).held ≡ true = ap (λ (s : Side). is_waiting s.held) here ∙ sym c.is_waiting.ensures ∙ c.if-not-is_waiting.false in
     let read : front (naming c.settings.result.width c.self.inside.number v) (side end).held ≡ front_of x v =
     ap (λ (s : Settings). front (naming s.width r.number v) (side end).held) c.settings.ensures.value
@@ -34,4 +34,4 @@ returns c =
     ∙ ap (λ (s : Side). front (naming x.net.settings.width x.number v) s.held) (sym here) in
     let rule = naming c.settings.result.width c.self.inside.number v in
     let is_read = IfOk-weaker c.front_to_show.result (IsReadAs rule (front rule (side end).held)) (λ f. f ≡ front rule (side end).held) (λ f h. h.read) c.front_to_show.ensures.reads in
-    (rw (c.in_ok-at.ensures.none, waits) refl, subst (λ (t : Result Message Fault). IfOk c.front_to_show.result (λ f. f ≡ t)) read is_read)
+    (rw (c.in_ok-peer_at.ensures.none, waits) refl, subst (λ (t : Result Message Fault). IfOk c.front_to_show.result (λ f. f ≡ t)) read is_read)

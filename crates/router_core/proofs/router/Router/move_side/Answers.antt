@@ -19,13 +19,13 @@ use Rattle.router_core.proofs.router.Router.move_side.Goals as goal
 pub carry-requires-clause-stands : goal.carry-requires-clause-stands
 carry-requires-clause-stands c =
     let r = view_of c.self.inside in
-    let below = subst (λ (x : RouterView). c.args.at < length x.peers) (sym c.self.view_is) c.requires.below in
-    listed_here r c.args.at c.index.result.now c.self.invariant below c.index.ensures
+    let below = subst (λ (x : RouterView). c.args.peer_at < length x.peers) (sym c.self.view_is) c.requires.below in
+    listed_here r c.args.peer_at c.index.result.now c.self.invariant below c.index.ensures
 
 pub invariant_of-self : goal.invariant_of-self
 invariant_of-self c =
     let r = view_of c.self.inside in
-    let at = c.args.at in
+    let at = c.args.peer_at in
     let below = subst (λ (x : RouterView). at < length x.peers) (sym c.self.view_is) c.requires.below in
     let i = c.index.result.now in
     let v = i.number in
@@ -46,7 +46,7 @@ invariant_of-self c =
 pub returns : goal.returns
 returns c =
     let r = view_of c.self.inside in
-    let at = c.args.at in
+    let at = c.args.peer_at in
     let below = subst (λ (x : RouterView). at < length x.peers) (sym c.self.view_is) c.requires.below in
     let i = c.index.result.now in
     let v = i.number in

@@ -7,4 +7,4 @@ use Rattle.router_core.proofs.router.Router.octets_waiting.Goals as goal
 pub returns : goal.returns
 returns c =
     let r = view_of c.self.inside in
-    ap Some c.octets_waiting.ensures ∙ shown r c.args.self.now c.args.peer c.in_ok-at.at c.index.result.now (λ side. octets_waiting side.outbox) c.self.view_is c.in_ok-at.ensures.place c.in_ok-at.ensures.none c.index.ensures
+    ap Some c.octets_waiting.ensures ∙ shown r c.args.self.now c.args.peer c.in_ok-peer_at.peer_at c.index.result.now (λ side. octets_waiting side.outbox) c.self.view_is c.in_ok-peer_at.ensures.place c.in_ok-peer_at.ensures.none c.index.ensures

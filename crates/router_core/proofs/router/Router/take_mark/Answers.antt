@@ -23,9 +23,9 @@ returns-in_err-room-clause-takes c =
 pub returns-then-not-heeds-clause-takes : goal.returns-then-not-heeds-clause-takes
 returns-then-not-heeds-clause-takes c =
     let r = view_of c.self.inside in
-    let place = subst (λ (x : RouterView). IsFound x.peers c.args.peer c.args.at) (sym c.self.view_is) c.requires.place in
+    let place = subst (λ (x : RouterView). IsFound x.peers c.args.peer c.args.peer_at) (sym c.self.view_is) c.requires.place in
     let stands : sides_of r c.args.peer ≡ side c.index.result.now.end =
-    side_here (side_opening (config_of r.net) r.net.settings.width) r.peers c.args.peer c.args.at c.index.result.now place.2 ∙ ap (λ (w : Peer). side w.end) (sym c.index.ensures) in
+    side_here (side_opening (config_of r.net) r.net.settings.width) r.peers c.args.peer c.args.peer_at c.index.result.now place.2 ∙ ap (λ (w : Peer). side w.end) (sym c.index.ensures) in
     let heeds : (is_up (sides_of r c.args.peer) && uses (sides_of r c.args.peer).link c.args.epoch) ≡ c.heeds.result = ap (λ (s : Side). is_up s && uses s.link c.args.epoch) stands ∙ sym c.heeds.ensures in
     subst (λ (x : RouterView). TakesMark (Ok stepped.Did) x c.args.peer c.args.epoch c.args.number c.args.stamp (at_stamp r r.marks c.args.stamp)) c.self.view_is
     (takes_nothing r c.args.peer c.args.epoch c.args.number c.args.stamp (heeds ∙ c.if-not-heeds.true))
@@ -33,9 +33,9 @@ returns-then-not-heeds-clause-takes c =
 pub returns-then-number-last-clause-takes : goal.returns-then-number-last-clause-takes
 returns-then-number-last-clause-takes c =
     let r = view_of c.self.inside in
-    let place = subst (λ (x : RouterView). IsFound x.peers c.args.peer c.args.at) (sym c.self.view_is) c.requires.place in
+    let place = subst (λ (x : RouterView). IsFound x.peers c.args.peer c.args.peer_at) (sym c.self.view_is) c.requires.place in
     let stands : sides_of r c.args.peer ≡ side c.index.result.now.end =
-    side_here (side_opening (config_of r.net) r.net.settings.width) r.peers c.args.peer c.args.at c.index.result.now place.2 ∙ ap (λ (w : Peer). side w.end) (sym c.index.ensures) in
+    side_here (side_opening (config_of r.net) r.net.settings.width) r.peers c.args.peer c.args.peer_at c.index.result.now place.2 ∙ ap (λ (w : Peer). side w.end) (sym c.index.ensures) in
     let heeds : (is_up (sides_of r c.args.peer) && uses (sides_of r c.args.peer).link c.args.epoch) ≡ c.heeds.result = ap (λ (s : Side). is_up s && uses s.link c.args.epoch) stands ∙ sym c.heeds.ensures in
     let greater : nat_lt r.marks.last c.args.number ≡ true = grind (arith, nat_tests, c.if-number-last.true, c.last.ensures) in
     subst (λ (x : RouterView). TakesMark c.records.result x c.args.peer c.args.epoch c.args.number c.args.stamp c.records.new.self) c.self.view_is
@@ -45,7 +45,7 @@ returns-then-number-last-clause-takes c =
 pub on_mark-requires : goal.on_mark-requires
 on_mark-requires c =
     let r = view_of c.self.inside in
-    let place = subst (λ (x : RouterView). IsFound x.peers c.args.peer c.args.at) (sym c.self.view_is) c.requires.place in
+    let place = subst (λ (x : RouterView). IsFound x.peers c.args.peer c.args.peer_at) (sym c.self.view_is) c.requires.place in
     record { link = is_link c.linked_routers_are_peers.ensures r c.self.invariant c.args.peer (sym (c.self.invariant.links c.args.peer) ∙ place.1) }
 
 pub invariant_of-self-2 : goal.invariant_of-self-2
@@ -63,9 +63,9 @@ invariant_of-self-2 c =
 pub returns-clause-takes : goal.returns-clause-takes
 returns-clause-takes c =
     let r = view_of c.self.inside in
-    let place = subst (λ (x : RouterView). IsFound x.peers c.args.peer c.args.at) (sym c.self.view_is) c.requires.place in
+    let place = subst (λ (x : RouterView). IsFound x.peers c.args.peer c.args.peer_at) (sym c.self.view_is) c.requires.place in
     let stands : sides_of r c.args.peer ≡ side c.index.result.now.end =
-    side_here (side_opening (config_of r.net) r.net.settings.width) r.peers c.args.peer c.args.at c.index.result.now place.2 ∙ ap (λ (w : Peer). side w.end) (sym c.index.ensures) in
+    side_here (side_opening (config_of r.net) r.net.settings.width) r.peers c.args.peer c.args.peer_at c.index.result.now place.2 ∙ ap (λ (w : Peer). side w.end) (sym c.index.ensures) in
     let heeds : (is_up (sides_of r c.args.peer) && uses (sides_of r c.args.peer).link c.args.epoch) ≡ c.heeds.result = ap (λ (s : Side). is_up s && uses s.link c.args.epoch) stands ∙ sym c.heeds.ensures in
     let less : nat_lt r.marks.last c.args.number ≡ false = grind (arith, nat_tests, c.if-number-last.false, c.last.ensures) in
     subst (λ (x : RouterView). TakesMark (Ok stepped.Did) x c.args.peer c.args.epoch c.args.number c.args.stamp (at_stamp r c.on_mark.new.self c.args.stamp)) c.self.view_is

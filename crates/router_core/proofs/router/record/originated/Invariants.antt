@@ -3,5 +3,5 @@ use Rattle.router_core.specs.Recorded.{own_of}
 use Rattle.router_core.proofs.router.record.originated.Given as goal
 
 -- what is found, then what is left, is all
-abbrev pub invariant-loop-at : goal.invariant-loop-at
-invariant-loop-at l = l.own.items ++ own_of (drop l.at l.origins) l.tables.originated ≡ own_of l.origins l.tables.originated
+abbrev pub invariant-loop-prefix_at : goal.invariant-loop-prefix_at
+invariant-loop-prefix_at l = l.own.items ++ own_of (drop l.prefix_at l.origins) l.tables.originated ≡ own_of l.origins l.tables.originated

@@ -24,11 +24,11 @@ returns-clause-done g c =
     let shows = rw c.in-Ok-Some.field-0-is at c.in-Ok-Some.ensures in
     elim c.match-put.branch [
       | in-Ok w ↦ rw (w.result-is, w.self-is)
-          (λ k net set. put_did k u c.args.peer _ _ c.in-Ok-Some.item c.answers_are_steps.ensures set (w.item_put.ensures.answers k net set.chooses) (shows k net)
+          (λ k net set. put_did k u c.args.peer _ _ c.in-Ok-Some.item c.answers_are_steps.ensures set (w.item_put_at.ensures.answers k net set.chooses) (shows k net)
           w.in-Ok.ensures.ok c.put.ensures.taken c.put.ensures.room refl
           (w.note.ensures ∙ ap (λ l. l ++ entry w.stamp.result (Put w.number.result c.args.peer) ∷ []) c.reserve.ensures.items
           ∙ ap (λ (n : ℕ). c.args.self.now.journal.events.items ++ entry n (Put w.number.result c.args.peer) ∷ []) w.stamp.ensures
-          ∙ ap (λ (n : ℕ). c.args.self.now.journal.events.items ++ entry w.item_put.new.self.stamp (Put n c.args.peer) ∷ []) (w.number.ensures ∙ w.item_put.ensures.same.number)))
+          ∙ ap (λ (n : ℕ). c.args.self.now.journal.events.items ++ entry w.item_put_at.new.self.stamp (Put n c.args.peer) ∷ []) (w.number.ensures ∙ w.item_put_at.ensures.same.number)))
       | in-Err-put w ↦ rw (w.result-is, w.self-is)
           (λ k net set. put_full k u c.args.peer _ _ _ c.in-Ok-Some.item (shows k net) w.in-Err-put.ensures.full
           refl (record { put = w.in-Err-put.ensures.err; taken = c.put.ensures.taken; room = c.put.ensures.room; made = refl }) c.reserve.ensures.items)

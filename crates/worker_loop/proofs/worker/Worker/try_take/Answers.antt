@@ -19,7 +19,7 @@ returns-in-Ok-Did-clause-done g c =
     c.in-Some.ensures.taken c.take.ensures.put c.take.ensures.room refl
     (c.note.ensures ∙ ap (λ l. l ++ entry c.stamp.result (Take c.number.result c.args.peer) ∷ []) c.reserve-room.ensures.items
     ∙ ap (λ (n : ℕ). c.args.self.now.journal.events.items ++ entry n (Take c.number.result c.args.peer) ∷ []) c.stamp.ensures
-    ∙ ap (λ (n : ℕ). c.args.self.now.journal.events.items ++ entry c.take-2.new.self.stamp (Take n c.args.peer) ∷ []) (c.number.ensures ∙ c.take-2.ensures.same.number))
+    ∙ ap (λ (n : ℕ). c.args.self.now.journal.events.items ++ entry c.take_at.new.self.stamp (Take n c.args.peer) ∷ []) (c.number.ensures ∙ c.take_at.ensures.same.number))
 
 pub returns-clause-ended : goal.returns-clause-ended
 returns-clause-ended g c =
@@ -30,5 +30,5 @@ returns-clause-ended g c =
       before = g.L.Pipes.taken_from c.args.self.now.lines c.args.peer;
       taken = taken_last (g.L.Pipes.taken_from c.args.self.now.lines) (g.L.Pipes.taken_from c.take.new.self) c.args.peer i c.in-Some.ensures.taken;
       ends = rw c.lost.ensures
-          (take_ends x c.take-2.new.self c.args.peer i c.in-Err.error _ (sym c.may_take.ensures ∙ c.if-not-may_take.false) (λ k. refl) c.in-Err.ensures.answers c.take-2.ensures.same);
+          (take_ends x c.take_at.new.self c.args.peer i c.in-Err.error _ (sym c.may_take_at.ensures ∙ c.if-not-may_take_at.false) (λ k. refl) c.in-Err.ensures.answers c.take_at.ensures.same);
     }

@@ -1,6 +1,7 @@
 use Rattle.std.proofs.Common.{◌∙◌}
 use Rattle.router_model.specs.Calls.{Decide, Advertise}
 use Rattle.worker_loop.specs.Following.{Then, Each, Meets, Calls, Offers}
+use Rattle.worker_loop.specs.Whole.{peers_of}
 use Rattle.worker_loop.proofs.Chaining.{did_at, did_then}
 use Rattle.worker_loop.proofs.worker.Worker.turn.Goals as goal
 
@@ -8,7 +9,7 @@ pub returns-clause-done : goal.returns-clause-done
 returns-clause-done g c =
     let u = c.args.self.now.router.number in
     let net = c.args.self.now.router.net in
-    let peers = c.args.self.now.peers.items in
+    let peers = peers_of c.args.self.now in
     let m = c.in_ok-meet_all.ensures in
     let d = c.in_ok-try_call.ensures in
     let a = c.in_ok-try_call-2.ensures in

@@ -4,9 +4,10 @@ use Rattle.std.proofs.lemmas.List.Elements.{All-append, All-replicate}
 use Rattle.worker_loop.specs.declared.chore.Chore.{Chore}
 use Rattle.worker_loop.specs.declared.chore.Chore.TheVariants.{Turn, Stop}
 use Rattle.worker_loop.specs.Following.{Obeys}
+use Rattle.worker_loop.specs.Whole.{peers_of}
 use Rattle.worker_loop.specs.Ending.{EndsChore}
 use Rattle.worker_loop.proofs.Ending.{if_err, few_given, last_given, few_is_most}
-use Rattle.worker_loop.proofs.Chaining.{did_at, did_from, did_more, seen_same, same_on, next_same, all_more, one_longer, obeys_of}
+use Rattle.worker_loop.proofs.Chaining.{did_at, did_from, did_more, seen_same, same_on, next_same, same_peers, pipes_stay, all_more, one_longer, obeys_of}
 use Rattle.worker_loop.proofs.Passing.{passes_on}
 use Rattle.worker_loop.proofs.worker.Worker.work.Goals as goal
 
@@ -15,6 +16,11 @@ pass-given-requires g c =
     let i = c.chores.invariant in
     one_longer _ _ _ c.chores.given (ap g.G.Gate.given c.in_ok-passes.ensures.same.gate ∙ c.in_ok-chore.ensures.given) i.counted
 
+pub one-requires : goal.one-requires
+one-requires g c =
+    let n = c.in_ok-chore.ensures in
+    record { pipes = pipes_stay g.L.Pipes.stands g.L.Pipes.wiring _ _ (next_same _ _ _ _ c.chores.invariant.same n.rest) c.requires.pipes }
+
 pub returns-in-Stop-clause-follows : goal.returns-in-Stop-clause-follows
 returns-in-Stop-clause-follows g c =
     let u = c.args.self.now.router.number in
@@ -22,10 +28,10 @@ returns-in-Stop-clause-follows g c =
     let i = c.chores.invariant in
     let n = c.in_ok-chore.ensures in
     let o = c.in_ok-passes.ensures in
-    did_more (λ k x. Obeys k u c.args.self.now.peers.items x) net _ _ c.in_ok-chore.chore _ _ _ (ap g.G.Gate.given o.same.gate ∙ n.given) i.follows
-    (did_from (λ k. Obeys k u c.args.self.now.peers.items c.in_ok-chore.chore) net _ _ _ (seen_same g.L.Pipes.put_to g.L.Pipes.taken_from g.L.Pipes.room g.D.Desk.made _ _ n.rest)
-    (did_at (λ v k. Obeys k v c.args.self.now.peers.items c.in_ok-chore.chore) net _ u _ _ _ (next_same _ _ _ _ i.same n.rest).net (next_same _ _ _ _ i.same n.rest).number
-    (obeys_of _ _ _ _ _ _ _ (next_same _ _ _ _ i.same n.rest).peers o.done)))
+    did_more (λ k x. Obeys k u (peers_of c.args.self.now) x) net _ _ c.in_ok-chore.chore _ _ _ (ap g.G.Gate.given o.same.gate ∙ n.given) i.follows
+    (did_from (λ k. Obeys k u (peers_of c.args.self.now) c.in_ok-chore.chore) net _ _ _ (seen_same g.L.Pipes.put_to g.L.Pipes.taken_from g.L.Pipes.room g.D.Desk.made _ _ n.rest)
+    (did_at (λ v k. Obeys k v (peers_of c.args.self.now) c.in_ok-chore.chore) net _ u _ _ _ (next_same _ _ _ _ i.same n.rest).net (next_same _ _ _ _ i.same n.rest).number
+    (obeys_of _ _ _ _ _ _ _ (same_peers _ _ _ (next_same _ _ _ _ i.same n.rest)) o.done)))
 
 pub chores-preserved : goal.chores-preserved
 chores-preserved g c =
@@ -47,9 +53,9 @@ chores-preserved g c =
     let written = o.same.chores ∙ n.chores ∙ ap (λ l. l ++ c.in_ok-chore.chore ∷ []) i.chores ∙ sym given in
     record {
       follows = passes_on g.L.Pipes.put_to g.L.Pipes.taken_from g.L.Pipes.room g.D.Desk.made g.L.Pipes.wiring _ _ _ _ _ c.pass-given.result (same_on _ _ _ _ here o.same.later) p.rest p.given
-          (did_more (λ k x. Obeys k u c.args.self.now.peers.items x) net _ _ c.in_ok-chore.chore _ _ _ given i.follows
-          (did_from (λ k. Obeys k u c.args.self.now.peers.items c.in_ok-chore.chore) net _ _ _ (seen_same g.L.Pipes.put_to g.L.Pipes.taken_from g.L.Pipes.room g.D.Desk.made _ _ n.rest)
-          (did_at (λ v k. Obeys k v c.args.self.now.peers.items c.in_ok-chore.chore) net _ u _ _ _ here.net here.number (obeys_of _ _ _ _ _ _ _ here.peers o.done))))
+          (did_more (λ k x. Obeys k u (peers_of c.args.self.now) x) net _ _ c.in_ok-chore.chore _ _ _ given i.follows
+          (did_from (λ k. Obeys k u (peers_of c.args.self.now) c.in_ok-chore.chore) net _ _ _ (seen_same g.L.Pipes.put_to g.L.Pipes.taken_from g.L.Pipes.room g.D.Desk.made _ _ n.rest)
+          (did_at (λ v k. Obeys k v (peers_of c.args.self.now) c.in_ok-chore.chore) net _ u _ _ _ here.net here.number (obeys_of _ _ _ _ _ _ _ (same_peers _ _ _ here) o.done))))
           (λ any. o.passes (p.may any));
       counted = omega (arith, one, many, more);
       few = omega (arith, few, some);

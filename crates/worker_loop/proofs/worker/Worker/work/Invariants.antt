@@ -2,7 +2,7 @@
 use Rattle.std.proofs.Common.{◌≡◌, ◌≢◌, ◌≤◌, ◌-◌, length, All}
 use Rattle.worker_loop.specs.declared.chore.Chore.TheVariants.{Stop}
 use Rattle.worker_loop.specs.Following.{Did, Follows}
-use Rattle.worker_loop.specs.Whole.{seen_of, IsLaterWorker}
+use Rattle.worker_loop.specs.Whole.{seen_of, peers_of, IsLaterWorker}
 use Rattle.worker_loop.proofs.worker.Worker.work.Given as goal
 
 abbrev pub decreases-chores : goal.decreases-chores
@@ -10,7 +10,7 @@ decreases-chores g l = l.turns - l.given
 
 abbrev pub invariant-chores : goal.invariant-chores
 invariant-chores g l = record {
-  follows : Did (λ k. Follows k l.fn.self.router.number l.fn.self.peers.items (g.G.Gate.given l.self.gate)) l.fn.self.router.net
+  follows : Did (λ k. Follows k l.fn.self.router.number (peers_of l.fn.self) (g.G.Gate.given l.self.gate)) l.fn.self.router.net
       (seen_of g.L.Pipes.put_to g.L.Pipes.taken_from g.L.Pipes.room g.D.Desk.made l.fn.self)
       (seen_of g.L.Pipes.put_to g.L.Pipes.taken_from g.L.Pipes.room g.D.Desk.made l.self);
   counted : l.given ≡ length (g.G.Gate.given l.self.gate);

@@ -8,7 +8,7 @@ use Rattle.world_core.proofs.state.State.ask_at.Goals as goal
 
 pub index_mut-requires : goal.index_mut-requires
 index_mut-requires c =
-    let inside = is_below (λ r. r.number) c.args.self.now.routers.items c.args.number c.args.at c.requires.router in
+    let inside = is_below (λ r. r.number) c.args.self.now.routers.items c.args.number c.args.router_at c.requires.router in
     search rules
 
 pub log_answer-requires : goal.log_answer-requires
@@ -23,10 +23,10 @@ returns c =
     let y = c.perform-called.new.self in
     let run = c.log_answer.new.run.items in
     let call = call_of c.args.call.now in
-    let s = stands x c.args.number c.args.at xr c.requires c.index_mut.ensures.value in
+    let s = stands x c.args.number c.args.router_at xr c.requires c.index_mut.ensures.value in
     record {
-      answers = own_asks c.answers_are_steps.ensures x c.args.number c.args.at xr y c.args.event.now call run c.log_answer.result c.requires c.index_mut.ensures.value (is_own c.args.call.now)
+      answers = own_asks c.answers_are_steps.ensures x c.args.number c.args.router_at xr y c.args.event.now call run c.log_answer.result c.requires c.index_mut.ensures.value (is_own c.args.call.now)
           (enters xr y x.run run c.reserve-room.new.self.items c.args.event.now call c.perform-called.result c.log_answer.result c.perform-called.ensures.answers c.log_answer.ensures.answer c.log_answer.ensures.run c.reserve-room.ensures.items) c.perform-called.ensures.same;
-      whole = whole_router x c.args.number c.args.at y run c.requires (c.perform-called.ensures.same.number ∙ s.0) (c.perform-called.ensures.same.net ∙ s.1);
+      whole = whole_router x c.args.number c.args.router_at y run c.requires (c.perform-called.ensures.same.number ∙ s.0) (c.perform-called.ensures.same.net ∙ s.1);
       same = refl;
     }

@@ -8,7 +8,7 @@ use Rattle.world_core.proofs.state.State.back_at.Goals as goal
 
 pub index-requires : goal.index-requires
 index-requires c =
-    let inside = is_below (λ b. b.router) c.args.self.now.inboxes.items c.args.number c.args.at c.requires.here.inbox in
+    let inside = is_below (λ b. b.router) c.args.self.now.inboxes.items c.args.number c.args.router_at c.requires.here.inbox in
     search rules
 
 pub index-pipe-requires : goal.index-pipe-requires
@@ -22,4 +22,4 @@ returns c =
     let x = view_of c.args.self.now in
     let p = c.index-pipe.result.now in
     link_placed c.linked_routers_are_peers.ensures x c.args.peer c.args.number p.router p.back c.requires.here.whole
-    (back_placed x c.args.number c.args.peer c.args.at c.args.pipe c.index.result.now p c.requires c.index.ensures c.index-pipe.ensures)
+    (back_placed x c.args.number c.args.peer c.args.router_at c.args.pipe c.index.result.now p c.requires c.index.ensures c.index-pipe.ensures)

@@ -9,7 +9,7 @@ use Rattle.world_core.proofs.state.State.link_is_idle_at.Goals as goal
 
 pub index-requires : goal.index-requires
 index-requires c =
-    let inside = is_below (λ b. b.router) c.args.self.now.inboxes.items c.args.number c.args.at c.requires.here.inbox in
+    let inside = is_below (λ b. b.router) c.args.self.now.inboxes.items c.args.number c.args.router_at c.requires.here.inbox in
     search rules
 
 pub index-requires-2 : goal.index-requires-2
@@ -20,15 +20,15 @@ index-requires-2 c =
 
 pub index-requires-in-None : goal.index-requires-in-None
 index-requires-in-None c =
-    let inside = is_below (λ r. r.number) c.args.self.now.routers.items c.args.number c.args.at c.requires.here.router in
+    let inside = is_below (λ r. r.number) c.args.self.now.routers.items c.args.number c.args.router_at c.requires.here.router in
     search rules
 
 pub returns-in-None : goal.returns-in-None
 returns-in-None c = λ yes.
-    quiet (view_of c.args.self.now) c.args.number c.args.peer c.args.at c.args.pipe c.index-in-None.result.now c.index.result.now c.index-2.result.now c.requires
+    quiet (view_of c.args.self.now) c.args.number c.args.peer c.args.router_at c.args.pipe c.index-in-None.result.now c.index.result.now c.index-2.result.now c.requires
     c.index-in-None.ensures c.index.ensures c.index-2.ensures (empty_is c.index-2.result.now.items.items c.in-None.ensures.item.3) (λ cut. sym (c.link_is_idle_at.ensures cut) ∙ yes)
 
 pub link_is_idle_at-requires : goal.link_is_idle_at-requires
 link_is_idle_at-requires c = record {
-  stands = peer_placed (view_of c.args.self.now) c.args.number c.args.peer c.args.at c.args.pipe c.index-in-None.result.now c.requires c.index-in-None.ensures;
+  stands = peer_placed (view_of c.args.self.now) c.args.number c.args.peer c.args.router_at c.args.pipe c.index-in-None.result.now c.requires c.index-in-None.ensures;
 }

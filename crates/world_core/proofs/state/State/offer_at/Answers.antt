@@ -7,14 +7,14 @@ use Rattle.world_core.proofs.state.State.offer_at.Goals as goal
 
 pub index_mut-requires : goal.index_mut-requires
 index_mut-requires c =
-    let inside = is_below (λ r. r.number) c.args.self.now.routers.items c.args.number c.args.at c.requires.router in
+    let inside = is_below (λ r. r.number) c.args.self.now.routers.items c.args.number c.args.router_at c.requires.router in
     search rules
 
 pub returns : goal.returns
 returns c =
     let x = view_of c.args.self.now in
     let u = c.args.number in
-    let i = c.args.at in
+    let i = c.args.router_at in
     let xr = c.index_mut.result.now in
     let o = c.enter_offer.new in
     let s = stands x u i xr c.requires c.index_mut.ensures.value in

@@ -8,8 +8,8 @@ returns-in-Some c =
     let net = c.args.self.now.network.now in
     record {
       whole = c.requires;
-      router = at_place (λ r. r.number) c.args.self.now.routers.items net.routers c.args.number c.in-Some.at c.requires.routers c.requires.network.plan.rising c.in-Some.ensures.value.0 c.in-Some.ensures.value.1;
-      inbox = at_place (λ b. b.router) c.args.self.now.inboxes.items net.routers c.args.number c.in-Some.at c.requires.inboxes c.requires.network.plan.rising c.in-Some.ensures.value.0 c.in-Some.ensures.value.1;
+      router = at_place (λ r. r.number) c.args.self.now.routers.items net.routers c.args.number c.in-Some.router_at c.requires.routers c.requires.network.plan.rising c.in-Some.ensures.value.0 c.in-Some.ensures.value.1;
+      inbox = at_place (λ b. b.router) c.args.self.now.inboxes.items net.routers c.args.number c.in-Some.router_at c.requires.inboxes c.requires.network.plan.rising c.in-Some.ensures.value.0 c.in-Some.ensures.value.1;
       known = λ g e. known g net c.args.number e (c.in-Some.ensures.some.0 refl);
     }
 

@@ -7,12 +7,12 @@ use Rattle.world_core.proofs.state.State.router.Goals as goal
 
 pub index-requires : goal.index-requires
 index-requires c =
-    let inside = is_below (λ r. r.number) c.args.self.now.routers.items c.args.number c.in-Ok.at c.in-Ok.ensures.router in
+    let inside = is_below (λ r. r.number) c.args.self.now.routers.items c.args.number c.in-Ok.router_at c.in-Ok.ensures.router in
     search rules
 
 pub returns-in-Ok : goal.returns-in-Ok
 returns-in-Ok c =
-    let s = stands (view_of c.args.self.now) c.args.number c.in-Ok.at c.index.result.now c.in-Ok.ensures c.index.ensures in
+    let s = stands (view_of c.args.self.now) c.args.number c.in-Ok.router_at c.index.result.now c.in-Ok.ensures c.index.ensures in
     record { number = s.0; network = s.1; state = sym s.2 }
 
 pub returns-in-Err : goal.returns-in-Err

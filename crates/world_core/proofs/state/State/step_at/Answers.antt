@@ -18,7 +18,7 @@ use Rattle.world_core.proofs.state.State.step_at.Goals as goal
 pub ask_at-requires : goal.ask_at-requires
 ask_at-requires c =
     let at = rw c.in-Command.is at c.requires.placed in
-    stands_here (view_of c.args.self.now) c.in-Command.number c.args.at c.requires.whole at.0
+    stands_here (view_of c.args.self.now) c.in-Command.number c.args.router_at c.requires.whole at.0
 
 pub returns-in-Command : goal.returns-in-Command
 returns-in-Command c =
@@ -28,7 +28,7 @@ returns-in-Command c =
 pub ask_at-requires-in-Tick : goal.ask_at-requires-in-Tick
 ask_at-requires-in-Tick c =
     let at = rw c.in-Tick.is at c.requires.placed in
-    stands_here (view_of c.args.self.now) c.in-Tick.number c.args.at c.requires.whole at.0
+    stands_here (view_of c.args.self.now) c.in-Tick.number c.args.router_at c.requires.whole at.0
 
 pub returns-in-Tick : goal.returns-in-Tick
 returns-in-Tick c =
@@ -38,7 +38,7 @@ returns-in-Tick c =
 pub ask_at-requires-in-Decide : goal.ask_at-requires-in-Decide
 ask_at-requires-in-Decide c =
     let at = rw c.in-Decide.is at c.requires.placed in
-    stands_here (view_of c.args.self.now) c.in-Decide.number c.args.at c.requires.whole at.0
+    stands_here (view_of c.args.self.now) c.in-Decide.number c.args.router_at c.requires.whole at.0
 
 pub returns-in-Decide : goal.returns-in-Decide
 returns-in-Decide c =
@@ -48,7 +48,7 @@ returns-in-Decide c =
 pub ask_at-requires-in-Advertise : goal.ask_at-requires-in-Advertise
 ask_at-requires-in-Advertise c =
     let at = rw c.in-Advertise.is at c.requires.placed in
-    stands_here (view_of c.args.self.now) c.in-Advertise.number c.args.at c.requires.whole at.0
+    stands_here (view_of c.args.self.now) c.in-Advertise.number c.args.router_at c.requires.whole at.0
 
 pub returns-in-Advertise : goal.returns-in-Advertise
 returns-in-Advertise c =
@@ -58,26 +58,26 @@ returns-in-Advertise c =
 pub offer_at-requires : goal.offer_at-requires
 offer_at-requires c =
     let at = rw c.in-Offer.is at c.requires.placed in
-    stands_here (view_of c.args.self.now) c.in-Offer.number c.args.at c.requires.whole at.0
+    stands_here (view_of c.args.self.now) c.in-Offer.number c.args.router_at c.requires.whole at.0
 
 pub returns-in-Offer : goal.returns-in-Offer
 returns-in-Offer c = rw c.in-Offer.is c.offer_at.ensures
 
 -- the pipe from the peer stands at its place
-put_link : (c : In-Put) → LinkAt (view_of c.args.self.now) c.in-Put.number c.in-Put.peer c.args.at c.args.pipe
+put_link : (c : In-Put) → LinkAt (view_of c.args.self.now) c.in-Put.number c.in-Put.peer c.args.router_at c.args.pipe
 put_link c =
     let at = rw c.in-Put.is at c.requires.placed in
-    link_placed c.linked_routers_are_peers.ensures (view_of c.args.self.now) c.in-Put.number c.in-Put.peer c.args.at c.args.pipe c.requires.whole at
+    link_placed c.linked_routers_are_peers.ensures (view_of c.args.self.now) c.in-Put.number c.in-Put.peer c.args.router_at c.args.pipe c.requires.whole at
 
-take_link : (c : In-Take) → LinkAt (view_of c.args.self.now) c.in-Take.field-0 c.in-Take.peer c.args.at c.args.pipe
+take_link : (c : In-Take) → LinkAt (view_of c.args.self.now) c.in-Take.field-0 c.in-Take.peer c.args.router_at c.args.pipe
 take_link c =
     let at = rw c.in-Take.is at c.requires.placed in
-    link_placed c.linked_routers_are_peers.ensures (view_of c.args.self.now) c.in-Take.field-0 c.in-Take.peer c.args.at c.args.pipe c.requires.whole at
+    link_placed c.linked_routers_are_peers.ensures (view_of c.args.self.now) c.in-Take.field-0 c.in-Take.peer c.args.router_at c.args.pipe c.requires.whole at
 
-handle_link : (c : In-Handle) → LinkAt (view_of c.args.self.now) c.in-Handle.field-0 c.in-Handle.peer c.args.at c.args.pipe
+handle_link : (c : In-Handle) → LinkAt (view_of c.args.self.now) c.in-Handle.field-0 c.in-Handle.peer c.args.router_at c.args.pipe
 handle_link c =
     let at = rw c.in-Handle.is at c.requires.placed in
-    link_placed c.linked_routers_are_peers.ensures (view_of c.args.self.now) c.in-Handle.field-0 c.in-Handle.peer c.args.at c.args.pipe c.requires.whole at
+    link_placed c.linked_routers_are_peers.ensures (view_of c.args.self.now) c.in-Handle.field-0 c.in-Handle.peer c.args.router_at c.args.pipe c.requires.whole at
 
 pub back_at-to-requires : goal.back_at-to-requires
 back_at-to-requires c = put_link (goal.at.back_at-to-requires c).In-Put
@@ -96,11 +96,11 @@ index_mut-requires-in-Put c =
 pub index_mut-router-requires : goal.index_mut-router-requires
 index_mut-router-requires c =
     let link = put_link (goal.at.index_mut-router-requires c).In-Put in
-    let inside = is_below (λ r. r.number) c.args.self.now.routers.items c.in-Put.number c.args.at link.here.router in
+    let inside = is_below (λ r. r.number) c.args.self.now.routers.items c.in-Put.number c.args.router_at link.here.router in
     search rules
 
 pub enter_put-requires : goal.enter_put-requires
-enter_put-requires c = peer_placed (view_of c.args.self.now) c.in-Put.number c.in-Put.peer c.args.at c.args.pipe c.index_mut-router.result.now (put_link (goal.at.enter_put-requires c).In-Put) c.index_mut-router.ensures.value
+enter_put-requires c = peer_placed (view_of c.args.self.now) c.in-Put.number c.in-Put.peer c.args.router_at c.args.pipe c.index_mut-router.result.now (put_link (goal.at.enter_put-requires c).In-Put) c.index_mut-router.ensures.value
 
 pub returns-in-Put : goal.returns-in-Put
 returns-in-Put c =
@@ -118,18 +118,18 @@ returns-in-Put c =
     let new : Inbox = record { router = old.router; pipes = with_item old.pipes into q } in
     let here = (put_link (goal.at.returns-in-Put c).In-Put).here in
     let pipe : PipeAt x v u to into old new p q = record { link = c.back_at-to.ensures; was = c.index_mut.ensures.value; held = c.index_mut-in-Put.ensures.value; router = refl; pipes = refl; peer = refl; back = λ net u h. h } in
-    let s = stands x u c.args.at xr here c.index_mut-router.ensures.value in
+    let s = stands x u c.args.router_at xr here c.index_mut-router.ensures.value in
     let entered = rw c.in-Put.is at c.enter_put.ensures.enters in
     rw c.in-Put.is (record {
-      answers = put_steps c.answers_are_steps.ensures x u v c.args.at to into xr y old new p q run c.enter_put.result here pipe c.index_mut-router.ensures.value entered c.enter_put.ensures.same;
-      whole = whole_pipe x v u u c.args.at to into y old new p q run here pipe (c.enter_put.ensures.same.number ∙ s.0) (c.enter_put.ensures.same.net ∙ s.1);
+      answers = put_steps c.answers_are_steps.ensures x u v c.args.router_at to into xr y old new p q run c.enter_put.result here pipe c.index_mut-router.ensures.value entered c.enter_put.ensures.same;
+      whole = whole_pipe x v u u c.args.router_at to into y old new p q run here pipe (c.enter_put.ensures.same.number ∙ s.0) (c.enter_put.ensures.same.net ∙ s.1);
       same = refl;
     })
 
 pub index_mut-requires-in-Take : goal.index_mut-requires-in-Take
 index_mut-requires-in-Take c =
     let link = take_link (goal.at.index_mut-requires-in-Take c).In-Take in
-    let inside = is_below (λ b. b.router) c.args.self.now.inboxes.items c.in-Take.field-0 c.args.at link.here.inbox in
+    let inside = is_below (λ b. b.router) c.args.self.now.inboxes.items c.in-Take.field-0 c.args.router_at link.here.inbox in
     search rules
 
 pub index_mut-requires-in-Take-2 : goal.index_mut-requires-in-Take-2
@@ -142,19 +142,19 @@ index_mut-requires-in-Take-2 c =
 pub index_mut-router-requires-in-Take : goal.index_mut-router-requires-in-Take
 index_mut-router-requires-in-Take c =
     let link = take_link (goal.at.index_mut-router-requires-in-Take c).In-Take in
-    let inside = is_below (λ r. r.number) c.args.self.now.routers.items c.in-Take.field-0 c.args.at link.here.router in
+    let inside = is_below (λ r. r.number) c.args.self.now.routers.items c.in-Take.field-0 c.args.router_at link.here.router in
     search rules
 
 pub enter_take-requires : goal.enter_take-requires
 enter_take-requires c =
-    peer_placed (view_of c.args.self.now) c.in-Take.field-0 c.in-Take.peer c.args.at c.args.pipe c.index_mut-router-in-Take.result.now (take_link (goal.at.enter_take-requires c).In-Take) c.index_mut-router-in-Take.ensures.value
+    peer_placed (view_of c.args.self.now) c.in-Take.field-0 c.in-Take.peer c.args.router_at c.args.pipe c.index_mut-router-in-Take.result.now (take_link (goal.at.enter_take-requires c).In-Take) c.index_mut-router-in-Take.ensures.value
 
 pub returns-in-Take : goal.returns-in-Take
 returns-in-Take c =
     let x = view_of c.args.self.now in
     let u = c.in-Take.field-0 in
     let v = c.in-Take.peer in
-    let i = c.args.at in
+    let i = c.args.router_at in
     let k = c.args.pipe in
     let xr = c.index_mut-router-in-Take.result.now in
     let y = c.enter_take.new.router in
@@ -176,11 +176,11 @@ returns-in-Take c =
 pub index_mut-requires-in-Handle : goal.index_mut-requires-in-Handle
 index_mut-requires-in-Handle c =
     let link = handle_link (goal.at.index_mut-requires-in-Handle c).In-Handle in
-    let inside = is_below (λ r. r.number) c.args.self.now.routers.items c.in-Handle.field-0 c.args.at link.here.router in
+    let inside = is_below (λ r. r.number) c.args.self.now.routers.items c.in-Handle.field-0 c.args.router_at link.here.router in
     search rules
 
 pub handle_at-called-requires : goal.handle_at-called-requires
-handle_at-called-requires c = record { stands = peer_placed (view_of c.args.self.now) c.in-Handle.field-0 c.in-Handle.peer c.args.at c.args.pipe c.index_mut-in-Handle.result.now (handle_link (goal.at.handle_at-called-requires c).In-Handle) c.index_mut-in-Handle.ensures.value }
+handle_at-called-requires c = record { stands = peer_placed (view_of c.args.self.now) c.in-Handle.field-0 c.in-Handle.peer c.args.router_at c.args.pipe c.index_mut-in-Handle.result.now (handle_link (goal.at.handle_at-called-requires c).In-Handle) c.index_mut-in-Handle.ensures.value }
 
 pub log_answer-requires : goal.log_answer-requires
 log_answer-requires c = λ did.
@@ -198,14 +198,14 @@ returns-in-Handle c =
     let event = schedule.Handle u c.in-Handle.peer in
     let call = Handle c.in-Handle.peer in
     let w = plain_world x in
-    let z = plain_world (record x { routers = set x.routers c.args.at y; run = run }) in
+    let z = plain_world (record x { routers = set x.routers c.args.router_at y; run = run }) in
     let link = handle_link (goal.at.returns-in-Handle c).In-Handle in
-    let s = stands x u c.args.at xr link.here c.index_mut-in-Handle.ensures.value in
+    let s = stands x u c.args.router_at xr link.here c.index_mut-in-Handle.ensures.value in
     let logged = rw c.in-Handle.is at c.log_answer.ensures.run in
-    let asks = own_asks c.answers_are_steps.ensures x u c.args.at xr y event call run r link.here c.index_mut-in-Handle.ensures.value tt
+    let asks = own_asks c.answers_are_steps.ensures x u c.args.router_at xr y event call run r link.here c.index_mut-in-Handle.ensures.value tt
     (enters xr y x.run run c.reserve-room.new.self.items event call c.handle_at-called.result r c.handle_at-called.ensures.answers c.log_answer.ensures.answer logged c.reserve-room.ensures.items) c.handle_at-called.ensures.same in
     rw c.in-Handle.is (record {
       answers = λ g e ranks. (let a = called g w u call in subst (λ b. Gives g r b w event z) (by_router g u a (link.here.known g e) ∙ sym (link.linked g e a)) (asks g e ranks));
-      whole = whole_router x u c.args.at y run link.here (c.handle_at-called.ensures.same.number ∙ s.0) (c.handle_at-called.ensures.same.net ∙ s.1);
+      whole = whole_router x u c.args.router_at y run link.here (c.handle_at-called.ensures.same.number ∙ s.0) (c.handle_at-called.ensures.same.net ∙ s.1);
       same = refl;
     })

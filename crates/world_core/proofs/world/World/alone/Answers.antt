@@ -14,16 +14,16 @@ use Rattle.world_core.proofs.world.World.alone.Goals as goal
 pub index-requires : goal.index-requires
 index-requires g c =
     let s = c.self.inside.state in
-    let at = stands_here (view_of s) c.args.number c.args.at c.self.invariant.0 (subst (λ (y : WorldView). slice_get (numbers y.net.routers) c.args.at ≡ Some c.args.number) (sym c.self.view_is) c.requires) in
-    let inside = is_below (λ r. r.number) s.routers.items c.args.number c.args.at at.router in
+    let at = stands_here (view_of s) c.args.number c.args.router_at c.self.invariant.0 (subst (λ (y : WorldView). slice_get (numbers y.net.routers) c.args.router_at ≡ Some c.args.number) (sym c.self.view_is) c.requires) in
+    let inside = is_below (λ r. r.number) s.routers.items c.args.number c.args.router_at at.router in
     search rules
 
 pub returns-then-is_idle-clause-watches : goal.returns-then-is_idle-clause-watches
 returns-then-is_idle-clause-watches g c =
     let x = view_of c.self.inside.state in
     let yes = c.if-is_idle.true in
-    let at = stands_here x c.args.number c.args.at c.self.invariant.0 (subst (λ (y : WorldView). slice_get (numbers y.net.routers) c.args.at ≡ Some c.args.number) (sym c.self.view_is) c.requires) in
-    let rests = idle x c.args.number c.args.at c.index.result.now at c.index.ensures (c.is_idle.ensures.decide yes) (c.is_idle.ensures.advertise yes) (c.is_idle.ensures.offer yes) in
+    let at = stands_here x c.args.number c.args.router_at c.self.invariant.0 (subst (λ (y : WorldView). slice_get (numbers y.net.routers) c.args.router_at ≡ Some c.args.number) (sym c.self.view_is) c.requires) in
+    let rests = idle x c.args.number c.args.router_at c.index.result.now at c.index.ensures (c.is_idle.ensures.decide yes) (c.is_idle.ensures.advertise yes) (c.is_idle.ensures.offer yes) in
     idle_over g.W.Watch.says g.W.Watch.may_want c.args.self.now c.args.number (g.W.Watch.said c.args.watcher.now) (subst (λ (y : WorldView). IsIdle y c.args.number) c.self.view_is rests)
 
 pub returns-in_err-watched-clause-watches : goal.returns-in_err-watched-clause-watches
@@ -65,7 +65,7 @@ pub watched-requires : goal.watched-requires
 watched-requires g c = (c.requires, tt)
 
 pub watched-requires-2 : goal.watched-requires-2
-watched-requires-2 g c = (subst (λ (n : Plan). slice_get (numbers n.routers) c.args.at ≡ Some c.args.number) (sym c.watched.ensures.same) c.requires, tt)
+watched-requires-2 g c = (subst (λ (n : Plan). slice_get (numbers n.routers) c.args.router_at ≡ Some c.args.number) (sym c.watched.ensures.same) c.requires, tt)
 
 pub watched-requires-3 : goal.watched-requires-3
-watched-requires-3 g c = (subst (λ (n : Plan). slice_get (numbers n.routers) c.args.at ≡ Some c.args.number) (sym (c.watched-2.ensures.same ∙ c.watched.ensures.same)) c.requires, tt)
+watched-requires-3 g c = (subst (λ (n : Plan). slice_get (numbers n.routers) c.args.router_at ≡ Some c.args.number) (sym (c.watched-2.ensures.same ∙ c.watched.ensures.same)) c.requires, tt)

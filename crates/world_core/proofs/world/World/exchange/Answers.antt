@@ -11,8 +11,8 @@ use Rattle.world_core.proofs.world.World.exchange.Goals as goal
 
 pub link_is_idle_at-requires : goal.link_is_idle_at-requires
 link_is_idle_at-requires g c =
-    link_placed c.linked_routers_are_peers.ensures (view_of c.self.inside.state) c.args.number c.args.peer c.args.at c.args.place c.self.invariant.0
-    (subst (λ (y : WorldView). ArePlaced y.net c.args.number c.args.peer c.args.at c.args.place) (sym c.self.view_is) c.requires.placed)
+    link_placed c.linked_routers_are_peers.ensures (view_of c.self.inside.state) c.args.number c.args.peer c.args.router_at c.args.peer_at c.self.invariant.0
+    (subst (λ (y : WorldView). ArePlaced y.net c.args.number c.args.peer c.args.router_at c.args.peer_at) (sym c.self.view_is) c.requires.placed)
 
 pub returns-then-link_is_idle_at-clause-watches : goal.returns-then-link_is_idle_at-clause-watches
 returns-then-link_is_idle_at-clause-watches g c =
@@ -29,7 +29,7 @@ returns-in_err-put-clause-watches g c =
     (g.W.Watch.said c.put.new.watcher) c.in_err-put.ensures.watches)
 
 pub watched-requires : goal.watched-requires
-watched-requires g c = subst (λ (n : Plan). ArePlaced n c.args.number c.args.peer c.args.at c.args.place) (sym c.put.ensures.same) c.requires.placed
+watched-requires g c = subst (λ (n : Plan). ArePlaced n c.args.number c.args.peer c.args.router_at c.args.peer_at) (sym c.put.ensures.same) c.requires.placed
 
 pub returns-in_err-watched-clause-watches : goal.returns-in_err-watched-clause-watches
 returns-in_err-watched-clause-watches g c =
@@ -46,7 +46,7 @@ returns-in_err-watched-clause-watches g c =
     c.in_ok-put.ensures.watches (watched_before says may c.put.new.self c.watched.new.self (schedule.Take u v ∷ []) (schedule.Handle u v ∷ []) why one two c.in_err-watched.ensures.watches))
 
 pub watched-requires-2 : goal.watched-requires-2
-watched-requires-2 g c = subst (λ (n : Plan). ArePlaced n c.args.number c.args.peer c.args.at c.args.place) (sym (c.watched.ensures.same ∙ c.put.ensures.same)) c.requires.placed
+watched-requires-2 g c = subst (λ (n : Plan). ArePlaced n c.args.number c.args.peer c.args.router_at c.args.peer_at) (sym (c.watched.ensures.same ∙ c.put.ensures.same)) c.requires.placed
 
 pub returns-clause-watches : goal.returns-clause-watches
 returns-clause-watches g c =

@@ -21,8 +21,8 @@ watched-requires g c = c.requires.placed
 pub back_at-router-requires : goal.back_at-router-requires
 back_at-router-requires g c =
     let net = ap (λ (y : WorldView). y.net) c.self.view_is in
-    link_placed c.linked_routers_are_peers.ensures (view_of c.self.inside.state) c.args.number c.args.peer c.args.at c.args.place c.self.invariant.0
-    (subst (λ (n : Plan). ArePlaced n c.args.number c.args.peer c.args.at c.args.place) (sym net) c.requires.placed)
+    link_placed c.linked_routers_are_peers.ensures (view_of c.self.inside.state) c.args.number c.args.peer c.args.router_at c.args.peer_at c.self.invariant.0
+    (subst (λ (n : Plan). ArePlaced n c.args.number c.args.peer c.args.router_at c.args.peer_at) (sym net) c.requires.placed)
 
 pub returns-then-run-before-clause-resting : goal.returns-then-run-before-clause-resting
 returns-then-run-before-clause-resting g c =

@@ -6,10 +6,10 @@ use Rattle.world_core.specs.IdleTurns.{TurnsAreIdle}
 use Rattle.world_core.specs.Watching.{WatchesEvents}
 use Rattle.world_core.proofs.world.World.round.Given as goal
 
-abbrev pub invariant-loop-at : goal.invariant-loop-at
-invariant-loop-at g l =
+abbrev pub invariant-loop-router_at : goal.invariant-loop-router_at
+invariant-loop-router_at g l =
     record {
       net : l.self.net ≡ l.fn.self.net;
-      done : WatchesEvents g.W.Watch.says g.W.Watch.may_want (Ok tt) l.fn.self (flat_map (λ r. turn l.fn.self.net r.asn) (take l.at l.router-items)) (g.W.Watch.said l.fn.watcher) l.self (g.W.Watch.said l.watcher);
+      done : WatchesEvents g.W.Watch.says g.W.Watch.may_want (Ok tt) l.fn.self (flat_map (λ r. turn l.fn.self.net r.asn) (take l.router_at l.router-items)) (g.W.Watch.said l.fn.watcher) l.self (g.W.Watch.said l.watcher);
       resting : TurnsAreIdle l.self l.marks.items;
     }

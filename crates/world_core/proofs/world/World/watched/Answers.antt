@@ -2,7 +2,7 @@ use Rattle.std.proofs.Common.{◌∷◌, [], List, ℕ, ap, subst, sym, ◌∙�
 use Rattle.std.proofs.lemmas.Result.{err_from_is_err_and}
 use Rattle.router_model.specs.declared.refusal.Stepped.TheVariants.{Did, Nothing}
 use Rattle.world_core.specs.Steps.{view_of, IsPlaced}
-use Rattle.world_core.specs.Views.{WorldView, Answers}
+use Rattle.world_core.specs.Views.{WorldView, plain_world, Answers}
 use Rattle.world_core.specs.Watching.{Adds, WatchesEvents}
 use Rattle.world_core.proofs.Watched.{one_did, one_idled, one_refused, wanted}
 use Rattle.world_core.proofs.Worlds.{stepped}
@@ -14,7 +14,7 @@ returns-in_err-before_event-clause-watches g c =
     rw p.1 (wanted g.W.Watch.says g.W.Watch.may_want c.args.self.now c.args.self.now (c.args.event.now ∷ []) (g.W.Watch.said c.args.watcher.now) (g.W.Watch.said c.before_event.new.self) p.0 c.in_err-before_event.ensures.err p.2)
 
 pub step_at-requires-clause-placed : goal.step_at-requires-clause-placed
-step_at-requires-clause-placed g c = subst (λ (x : WorldView). IsPlaced x.net c.args.event.now c.args.at c.args.place) (sym c.self.view_is) c.requires
+step_at-requires-clause-placed g c = subst (λ (x : WorldView). IsPlaced x.net c.args.event.now c.args.router_at c.args.peer_at) (sym c.self.view_is) c.requires
 
 pub invariant_of-self : goal.invariant_of-self
 invariant_of-self g c =
@@ -51,10 +51,11 @@ pub returns-in_ok-behind_event-in-Did-clause-watches : goal.returns-in_ok-behind
 returns-in_ok-behind_event-in-Did-clause-watches g c =
     let says = g.W.Watch.says in
     let e = c.args.event.now in
+    let x = plain_world c.args.self.now in
     let y = view_of c.step_at.new.self in
     let did = rw c.in-Did.is at c.in_ok-step_at.ensures in
-    one_did says g.W.Watch.may_want c.args.self.now y e (g.W.Watch.said c.args.watcher.now) (g.W.Watch.said c.behind_event.new.self) (subst (λ (x : WorldView). Answers (Ok Did) x e y) c.self.view_is did.answers)
-    (subst (λ (t : List ℕ). Adds t (g.W.Watch.said c.behind_event.new.self) (says e)) c.before_event.ensures.same c.in_ok-behind_event-in-Did.ensures.ok)
+    one_did says g.W.Watch.may_want c.args.self.now y e (g.W.Watch.said c.args.watcher.now) (g.W.Watch.said c.behind_event.new.self) (subst (λ (w : WorldView). Answers (Ok Did) w e y) c.self.view_is did.answers)
+    (subst (λ (t : List ℕ). Adds t (g.W.Watch.said c.behind_event.new.self) (says x e (plain_world y))) c.before_event.ensures.same (c.in_ok-behind_event-in-Did.ensures.ok x c.in_ok-before_event.ensures.saw))
 
 pub returns-in_ok-behind_event-in-Did-clause-same : goal.returns-in_ok-behind_event-in-Did-clause-same
 returns-in_ok-behind_event-in-Did-clause-same g c = c.in_ok-step_at.ensures.same ∙ ap (λ (x : WorldView). x.net) c.self.view_is

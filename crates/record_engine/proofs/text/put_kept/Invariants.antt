@@ -1,9 +1,0 @@
--- what was put, before what is left, is what all are printed as
-use Rattle.std.proofs.Common.{◌≡◌, ◌++◌, drop}
-use Rattle.record_engine.specs.Recording.{kept_text}
-use Rattle.record_engine.proofs.text.put_kept.Given as goal
-
-abbrev pub invariant-loop-worked : goal.invariant-loop-worked
-invariant-loop-worked g l =
-    l.out.items ++ kept_text l.origins (drop l.worked-index l.workers)
-    ≡ l.fn.out.items ++ kept_text l.origins l.workers

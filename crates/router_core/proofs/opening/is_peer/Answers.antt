@@ -1,5 +1,0 @@
-use Rattle.router_core.proofs.Beginnings.{linked_is}
-use Rattle.router_core.proofs.opening.is_peer.Goals as goal
-
-pub returns : goal.returns
-returns c = linked_is c.args.network.now c.args.number c.args.other c.linked.result c.linked.ensures

@@ -1,7 +1,0 @@
--- none of the numbers passed is wanted
-use Rattle.std.proofs.Common.{◌≡◌, ◌<◌, ◌≤◌, ℕ, false}
-use Rattle.run_engine.specs.Running.{is_wanted}
-use Rattle.run_engine.proofs.settled.first_wanted.Given as goal
-
-abbrev pub invariant-loop-before : goal.invariant-loop-before
-invariant-loop-before l = (s : ℕ) → 0 < s → s ≤ l.before → is_wanted l.demand l.network l.collector s ≡ false

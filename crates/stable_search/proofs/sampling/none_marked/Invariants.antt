@@ -1,0 +1,6 @@
+-- a set for each place passed
+use Rattle.std.proofs.Common.{◌≡◌, length}
+use Rattle.stable_search.proofs.sampling.none_marked.Given as goal
+
+abbrev pub invariant-loop-place : goal.invariant-loop-place
+invariant-loop-place l = length l.seen.items ≡ l._place

@@ -1,0 +1,7 @@
+pub mod ChoreLemmas
+pub mod EndLemmas
+pub mod FaultLemmas
+pub mod GateLemmas
+pub mod LineLemmas
+pub mod PlayLemmas
+pub mod RunLemmas

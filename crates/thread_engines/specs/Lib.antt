@@ -1,0 +1,5 @@
+pub mod Gates
+pub mod Laws
+pub mod Recording
+pub mod Records
+pub mod Running
