@@ -4,6 +4,8 @@ import unittest
 
 from support import TOP, asked_program, run
 
+from bgpnet.answers import said_of
+
 
 class Ask(unittest.TestCase):
     def asked(self, path, *words, status=0):
@@ -40,6 +42,15 @@ class Ask(unittest.TestCase):
                          (2, [2, 3], [["2-3-1", "3-1"], ["2-1", "3-2-1"]]))
         limited = self.asked("examples/stable/limit.txt", "stable", "--most", "1", status=5)
         self.assertTrue(any("unknown" in prefix for prefix in limited["prefixes"]))
+
+    def test_check_of_all(self):
+        """What `check --all` prints, of two prefixes."""
+        lines = ["prefix 10.1.0.0/16 unstable 2", "unstable 2 has 2-1 best 2-3-1", "unstable 3 has none best 3-1",
+                 "prefix 10.2.0.0/16 stable"]
+        self.assertEqual(said_of(["check", "--all"], lines)["prefixes"], [
+            {"prefix": "10.1.0.0/16", "stable": False, "unstable": [{"router": 2, "has": "2-1", "best": "2-3-1"},
+                                                                    {"router": 3, "has": "none", "best": "3-1"}]},
+            {"prefix": "10.2.0.0/16", "stable": True, "unstable": []}])
 
     def test_why_and_cut(self):
         said = self.asked("examples/play/wedgie-stuck.txt", "why", "2")

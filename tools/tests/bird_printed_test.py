@@ -8,11 +8,11 @@ from support import asked_program, load, run
 from bird_cases import ONE, line, pair, square
 from bird_test import read_set
 
-from configs.ranks import Ranks, network_lines
-from configs.some_sets import make
-from configs.telling import play, verify
-from network import Prefix
-from program import Refusal
+from bgpnet.configs.ranks import Ranks, network_lines
+from bgpnet.configs.some_sets import make
+from bgpnet.configs.telling import play, verify
+from bgpnet.network import Prefix
+from bgpnet.program import Refusal
 
 topology = load("topology")
 

@@ -7,9 +7,9 @@ from bird_cases import CASES
 from bird_more_cases import CASES as MORE_CASES
 from bird_rules import RULES
 
-from configs.bird.keywords import KEYWORDS
-from configs.files import read_router
-from program import Refusal
+from bgpnet.configs.bird.keywords import KEYWORDS
+from bgpnet.configs.files import read_router
+from bgpnet.program import Refusal
 
 
 class Rules(unittest.TestCase):

@@ -6,14 +6,14 @@ from bird_cases import ONE, OWN, bird, frr, line, pair, shape, square
 from bird_terms import TERMS
 from bird_test import Refuses, read_set, shown
 
-from configs.bird.evaluate import State
-from configs.bird.run import Failure, function_of
-from configs.bird.statements import Statements
-from configs.bird.tokens import Lexer
-from configs.bird.values import Address, Clist, Pair, Path, Triple
-from configs.ranks import Ranks
-from network import Prefix
-from program import Refusal
+from bgpnet.configs.bird.evaluate import State
+from bgpnet.configs.bird.run import Failure, function_of
+from bgpnet.configs.bird.statements import Statements
+from bgpnet.configs.bird.tokens import Lexer
+from bgpnet.configs.bird.values import Address, Clist, Pair, Path, Triple
+from bgpnet.configs.ranks import Ranks
+from bgpnet.network import Prefix
+from bgpnet.program import Refusal
 
 
 def text_of(value):

@@ -5,17 +5,16 @@ from support import load  # noqa: F401, for it sets the path
 from bird_cases import CASES, ONE, OWN, bird, frr, line, pair, shape, square
 from bird_more_cases import CASES as MORE_CASES
 
-from configs.bird import random_sets as bird_sets
-from configs.files import read_router
-from configs.ranks import Ranks, network_lines
-from configs.routes import ORIGINS
-from configs.sessions import Set
-from network import Prefix, path_text
-from program import Refusal
+from bgpnet.configs.bird import random_sets as bird_sets
+from bgpnet.configs.files import read_router, set_of
+from bgpnet.configs.ranks import Ranks, network_lines
+from bgpnet.configs.routes import ORIGINS
+from bgpnet.network import Prefix, path_text
+from bgpnet.program import Refusal
 
 
 def read_set(files):
-    return Set([read_router(text, name) for name, text in files.items()])
+    return set_of([read_router(text, name) for name, text in files.items()])
 
 
 def pair_text(community):

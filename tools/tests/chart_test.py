@@ -1,18 +1,17 @@
 """Tests of `chart`. Charts are read as XML; what they have to show is asked of the program: what was told, put and
 taken, and the routes at the end."""
-import argparse
 import re
 import unittest
 import xml.etree.ElementTree
 
-from support import TOP, asked_program, load, run
+from support import TOP, asked_program, run
 
-from network import path_text, read_network, routes_of, words_of
-
-chart = load("chart")
+from bgpnet import charts
+from bgpnet.network import path_text, read_network, routes_of, words_of
+from bgpnet.tracing import COMMANDS, events_of, orders_of
 
 SVG = "{http://www.w3.org/2000/svg}"
-ITEMS = set(chart.COLOURS)
+ITEMS = set(charts.COLOURS)
 
 
 class Seen:
@@ -52,7 +51,7 @@ class Seen:
 
     @staticmethod
     def box(element, more):
-        width, x, y = chart.LETTER * len(element.text), float(element.get("x")), float(element.get("y"))
+        width, x, y = charts.LETTER * len(element.text), float(element.get("x")), float(element.get("y"))
         left = x - (width if "before" in more else width / 2 if "middle" in more else 0)
         return left, y - 10, left + width, y + 3
 
@@ -78,11 +77,8 @@ def made(path):
     """The chart of a file, without a start of the tool."""
     text = (TOP / path).read_text()
     network = read_network(asked_program(), text, path)[0]
-    events = chart.events_of(asked_program().trace(text, path), chart.orders_of(text))
-    every = chart.MOST_EVENTS
-    asked = argparse.Namespace(first=1, last=every, first_line=1, last_line=every, updates=False, prefix=None,
-                               columns=1, slide=False, points=12)
-    return Seen(chart.chart_of(network, events, asked).text([]))
+    events = events_of(asked_program().trace(text, path), orders_of(text))
+    return Seen(charts.chart_of(network, events, charts.Shown()).text([]))
 
 
 def played(path):
@@ -101,9 +97,9 @@ class Chart(unittest.TestCase):
             others = sum(line.startswith("# sends ") and not line.startswith("# sends update") for line in lines)
             with self.subTest(example=path.name):
                 seen = made(path)
-                updates = [arrow for arrow in seen.arrows if arrow[0] in chart.UPDATES]
+                updates = [arrow for arrow in seen.arrows if arrow[0] in charts.UPDATES]
                 self.assertEqual((len(updates), len(seen.arrows) - len(updates)), (told, others))
-                self.assertEqual(len(seen.texts.get("order", [])), sum(order[0] in chart.COMMANDS for order in orders))
+                self.assertEqual(len(seen.texts.get("order", [])), sum(order[0] in COMMANDS for order in orders))
                 kept = {router: "none" for router in seen.lines.values()} | dict(seen.paths)
                 if len({prefix for _, prefix in routes}) == 1:
                     self.assertEqual({router: path_text(way) for (router, _), way in routes.items()}, kept)
@@ -118,6 +114,19 @@ class Chart(unittest.TestCase):
         self.assertEqual(sorted(seen.texts["state"]), ["1 up", "2 up"])
         self.assertEqual(seen.paths, [(1, "1"), (2, "2-1")])
 
+    def test_names_of_routers(self):
+        """Heads and paths have the names of routers, a long name is cut in the head alone."""
+        text = ("# 1 called core\n# 2 called west-gateway\nrouter 1 10.0.0.1\nrouter 2 10.0.0.2\nlink 1 2\n"
+                "origin 1 10.1.0.0/16\nschedule\nstart 1 2\nstart 2 1\noriginate 1 10.1.0.0/16\nrounds 10\n")
+        status, out, error = run("chart", "-", given=text.encode())
+        self.assertEqual((status, error), (0, ""))
+        texts = {}
+        for element in xml.etree.ElementTree.fromstring(out).iter(SVG + "text"):
+            texts.setdefault(element.get("class").split(" ")[0], []).append(element.text)
+        self.assertEqual(texts["number"], ["core", "west-gatew\u2026"])
+        self.assertEqual(texts["path"], ["core", "west-gateway-core"])
+        self.assertIn("core", texts["said"])
+
     def test_a_snapshot(self):
         seen = charted("examples/play/snapshot.txt")
         self.assertEqual(sorted(seen.of("marker")), [(1, 2), (2, 1)])
@@ -131,7 +140,7 @@ class Chart(unittest.TestCase):
                               ("disagree", [("announce", one, other) for one in (2, 3) for other in (1, 5 - one)])):
             seen = charted(f"examples/cut/{name}.txt")
             places = dict(seen.recordings)
-            crossing = [(kind, one, other) for kind, one, other, points in seen.arrows if kind in chart.UPDATES
+            crossing = [(kind, one, other) for kind, one, other, points in seen.arrows if kind in charts.UPDATES
                         and points[0][1] < places[one] and other and points[-1][1] > places[other]]
             self.assertEqual(sorted(crossing), sorted(flights))
             back = [kind for kind, one, other, points in seen.arrows
@@ -175,7 +184,7 @@ class Chart(unittest.TestCase):
     def test_labels_stand_apart(self):
         for name in ("disagree", "ring", "reset-again", "link-flaps"):
             boxes = made(f"examples/play/{name}.txt").boxes
-            overlapping = sum(chart.common(one, other) > 20 for at, one in enumerate(boxes) for other in boxes[:at])
+            overlapping = sum(charts.common(one, other) > 20 for at, one in enumerate(boxes) for other in boxes[:at])
             self.assertLessEqual(overlapping, len(boxes) // 20)
 
     def test_letters_on_a_slide(self):
@@ -201,7 +210,19 @@ class Chart(unittest.TestCase):
         self.assertEqual(len(heads), len(whole.arrows))
         for element in root.iter(SVG + "path"):
             if element.get("class", "").split(" ")[0] in ITEMS:
-                self.assertTrue(all(chart.TOP <= y <= float(root.get("height")) for _, y in points_of(element)))
+                self.assertTrue(all(charts.TOP <= y <= float(root.get("height")) for _, y in points_of(element)))
+
+    def test_what_is_said_of_snapshots(self):
+        """In words, inside the picture."""
+        for name, said in (("snapshot-not-up", "no snapshot 1: session 1-2 is down"),
+                           ("snapshot-closed", "no snapshot 1: session 1-2 closed"),
+                           ("snapshot-superseded", "no snapshot 1: 1 began a later one"),
+                           ("snapshot-pending", "snapshot 1 moving, 1 has still to choose or to tell"),
+                           ("snapshot-in-flight", "snapshot 1 moving, an UPDATE from 1 to 2 is in flight"),
+                           ("snapshot", "snapshot 1 settled")):
+            seen = charted(f"examples/play/{name}.txt", "--updates")
+            self.assertIn(said, seen.texts["verdict"])
+            self.assertGreater(seen.width, charts.LEFT - 28 + charts.LETTER * len(said))
 
     def test_columns_end_where_no_arrow_is_under_way(self):
         """Of DISAGREE's UPDATEs none is parted, though they cross."""
@@ -232,7 +253,7 @@ class Chart(unittest.TestCase):
         self.assertEqual(run("chart", *words, "--points", int(points) + 1)[0], 1)
         self.assertEqual(run("chart", *words, "--to", last)[0], 0)
         network = b"router 1 10.0.0.1\nrouter 2 10.0.0.2\nlink 1 2\n"
-        long = network + b"schedule\n" + b"start 1 2\n" * (chart.MOST_ROWS + 1)
+        long = network + b"schedule\n" + b"start 1 2\n" * (charts.MOST_ROWS + 1)
         last = re.search(r"--to (\d+) has room", run("chart", "-", given=long)[2])[1]
         self.assertEqual(run("chart", "-", "--to", last, given=long)[0], 0)
 
@@ -274,7 +295,7 @@ class Chart(unittest.TestCase):
         self.assertEqual(run("chart", "-", given=network + b"schedule\nstart 1 1\n"),
                          (1, "", "chart: -:5: E1: a session with a router that is no peer: start 1 1\n"))
         self.assertEqual(run("chart", "-", "--prefix", "x", given=network), (1, "", "chart: 'x' is no prefix\n"))
-        long = b"start 1 2\n" * (chart.MOST_ROWS + 1)
+        long = b"start 1 2\n" * (charts.MOST_ROWS + 1)
         status, out, error = run("chart", "-", given=network + b"schedule\n" + long)
         self.assertEqual((status, out, error[:12]), (1, "", "chart: more "))
         self.assertEqual(run("chart", "-", "--from", "0", given=network)[0], 2)

@@ -9,12 +9,14 @@ import unittest
 
 from support import TOP, program_path
 
-from program import SAID, Program
+import bgpnet
+from bgpnet.program import SAID, Program
 
 DOCUMENTS = [TOP / "README.md", *(path for folder in ("docs", "examples", "tools")
                                   for path in sorted((TOP / folder).glob("*.md")))]
-# What is not run here: the kit and the gate, another program, a file of the reader's.
-NOT_RUN = re.compile(r"\brt (?!try -- )|^\.ci/run|\btshark\b|\boctets\.bin\b|\bupdates\.|^git ")
+# What is not run here: the kit and the gate, another program, a file of the reader's, what installs.
+NOT_RUN = re.compile(r"\brt (?!try -- )|^\.ci/run|\btshark\b|\boctets\.bin\b|\bupdates\.|^git |"
+                     r"\bapt install\b|\bpip install\b|/usr/share/doc/|^tools/package ")
 PROGRAM = re.compile(r"(?<![\w/])((crates/bgpnet/out/)?bgpnet(?= )|rt try --(?= ))")
 
 
@@ -99,9 +101,16 @@ class Documents(unittest.TestCase):
                  for path in (rows / "data").glob("*.rows")}
         self.assertEqual(wanted, found)
 
+    def test_the_map_of_the_modules(self):
+        """The docstring of the package names each of its modules and folders, and no other."""
+        package = TOP / "tools/bgpnet"
+        named = set(re.findall("^    ([a-z_]+)/? ", bgpnet.__doc__, re.M))
+        self.assertEqual(named, {path.stem for path in package.iterdir()
+                                 if path.suffix in ("", ".py") and not path.name.startswith("__")})
+
     def test_each_tool_has_a_help_with_an_example(self):
         for tool in ("ask", "streams", "topology", "settle", "lint", "whatif", "config", "beside", "beside_frr", "draw", "film",
-                     "chart", "player", "handout", "pictures", "test"):
+                     "chart", "player", "handout", "package", "pictures", "test"):
             path = TOP / "tools" / tool
             self.assertTrue(os.access(path, os.X_OK))
             done = subprocess.run([path, "--help"], capture_output=True, text=True)

@@ -9,15 +9,9 @@ import xml.etree.ElementTree
 
 from support import TOP, asked_program, load, run, start
 
-import drawing
-import layout
-import network as network_module
-import playing
-import program
-import tracing
-from network import Network, routes_of
+from bgpnet import charts, drawing, layout, network as network_module, playing, tracing
+from bgpnet.network import Network, routes_of
 
-film = load("film")
 topology = load("topology")
 
 PREFIX = "10.1.0.0/16"
@@ -157,10 +151,10 @@ class Draw(unittest.TestCase):
             "schedule\nstart 1 2\nstart 2 1\nrounds 20\noriginate 1 10.1.0.0/16\ndecide 1\nadvertise 1\nput 1 2\n"
             "take 2 1\nhandle 2 1\ndecide 2\nadvertise 2\n")
         picture = drawn("-", given=text.encode())
-        self.assertEqual(picture.texts["open"], ["check: stable, and 1 UPDATE on its way"])
+        self.assertEqual(picture.texts["open"], ["stable, and 1 UPDATE on its way"])
         self.assertNotIn("good", picture.texts)
         picture = drawn("-", given=(text + "rounds 9\n").encode())
-        self.assertEqual(picture.texts["good"], ["check: stable"])
+        self.assertEqual(picture.texts["good"], ["stable"])
 
     def test_places_by_comments(self):
         text = network_text(3, [(1, 2), (2, 3), (1, 3)]) + "# 1 at 0 0\n# 2 at 2 0\n# 3 at 1 1.5\n# 9 at 5 5\n"
@@ -219,21 +213,22 @@ class Draw(unittest.TestCase):
             text = path.read_text()
             network = Network(text.split("\nassignment\n")[0].splitlines())
             routes = {router: way for (router, _), way in routes_of(text.splitlines()).items()}
-            said = asked_program().answer(["check"], text, path)[0]
+            said = asked_program().answer(["check"], text, path)[0].split()
             with self.subTest(example=path.name):
                 picture = drawn(path)
                 self.assertEqual(sorted(picture.spots), network.routers)
                 self.assertEqual(sorted(picture.has("link")), sorted(network.links))
                 self.assertEqual(picture.circles["origin"], [1])
-                if said == "stable":
-                    self.assertEqual(picture.texts["good"], ["check: stable"])
+                if said == ["stable"]:
+                    self.assertEqual(picture.texts["good"], ["stable"])
                     self.assertEqual(sorted(picture.has("route")), hops(routes))
                     self.assertEqual((picture.has("left"), picture.has("wanted")), ([], []))
                     continue
                 moving = movers(network, routes)
                 others = ", ".join(map(str, list(moving)[1:]))
-                self.assertEqual(picture.texts["bad"], ["check: " + said] + [f"would move too: {others}"] * bool(others))
-                self.assertEqual(int(said.split()[1]), min(moving))
+                self.assertEqual(picture.texts["bad"], [f"unstable: {said[1]} has {said[3]}, {said[5]} is better"]
+                                 + [f"would move too: {others}"] * bool(others))
+                self.assertEqual(int(said[1]), min(moving))
                 self.assertEqual(sorted(picture.circles["unstable"]), list(moving))
                 self.assertEqual(sorted(picture.has("route") + picture.has("left")), hops(routes))
                 self.assertEqual(sorted(picture.has("left")), hops({router: routes[router] for router in moving}))
@@ -252,7 +247,7 @@ class Draw(unittest.TestCase):
     def test_a_schedule_is_played(self):
         picture = drawn("examples/play/wedgie-stuck.txt")
         self.assertEqual(sorted(picture.has("route")), [(2, 1), (3, 2), (4, 1)])
-        self.assertEqual(picture.texts["good"], ["snapshot 1 settled", "check: stable"])
+        self.assertEqual(picture.texts["good"], ["snapshot 1 settled", "stable"])
         picture = drawn("-", given=(TOP / "examples/play/reset.txt").read_bytes())
         self.assertEqual((picture.has("broken"), picture.has("route")), ([(1, 2)], []))
 
@@ -280,10 +275,10 @@ class Draw(unittest.TestCase):
                             "path 1 10.1.0.0/16 1\npath 2 10.1.0.0/16 2-1\npath 3 10.1.0.0/16 3-2-1\n"
                             "path 3 10.2.0.0/16 3\npath 2 10.2.0.0/16 none\npath 1 10.2.0.0/16 none\n").encode()
         picture = drawn("-", given=text)
-        self.assertEqual((sorted(picture.has("route")), picture.texts["good"]), ([(2, 1), (3, 2)], ["check: stable"]))
+        self.assertEqual((sorted(picture.has("route")), picture.texts["good"]), ([(2, 1), (3, 2)], ["stable"]))
         picture = drawn("-", "--prefix", "10.2.0.0/16", given=text)
         self.assertEqual((picture.circles["origin"], picture.has("wanted")), ([3], [(2, 3)]))
-        self.assertEqual(picture.texts["bad"], ["check: unstable 2 has none best 2-3"])
+        self.assertEqual(picture.texts["bad"], ["unstable: 2 has none, 2-3 is better"])
 
     def test_a_wider_rule_of_two_prefixes(self):
         text = network_text(3, [(1, 2), (2, 3)], "origin 3 10.0.0.0/16\nrank 2 10.0.0.0/8 2-1 2-3\n").encode()
@@ -368,9 +363,8 @@ class Draw(unittest.TestCase):
             light = [part / 12.92 if part <= 0.04045 else ((part + 0.055) / 1.055) ** 2.4 for part in parts]
             return [sum(factor * own for factor, own in zip(row, light)) for row in rows]
 
-        chart = load("chart")
         for one, other in ((drawing.BLUE, drawing.ORANGE), (drawing.BLUE, drawing.YELLOW),
-                           (chart.COLOURS["announce"], chart.COLOURS["withdraw"])):
+                           (charts.COLOURS["announce"], charts.COLOURS["withdraw"])):
             self.assertGreater(math.dist(seen_as(one), seen_as(other)), 0.3)
         self.assertLess(math.dist(seen_as("#188038"), seen_as("#d93025")), 0.3)
 
@@ -436,7 +430,8 @@ class Broken(unittest.TestCase):
     """Which links have a session that is up, as the program says."""
 
     def broken(self, network, orders):
-        return playing.broken_links(asked_program(), network, orders, "made")
+        text = network.text + "".join(line + "\n" for line in ["schedule", *orders, f"rounds {tracing.rest_bound(network)}"])
+        return playing.state_behind(asked_program(), text, "made").broken
 
     def test_links_that_are_not_started(self):
         for seed in range(20):
@@ -474,16 +469,13 @@ class Broken(unittest.TestCase):
         orders = [*topology.texts.starts(network), "rounds 5000", *topology.texts.originations(network)]
         self.assertEqual(self.broken(network, orders), set())
 
-    def test_what_leaves_no_room_for_the_question(self):
-        origins = "".join(f"origin 1 20.{number}.0.0/16\n" for number in range(253))
-        text = network_text(3, [(1, 2), (2, 3)], origins + "schedule\nstart 1 2\n")
-        asked = asked_program()
-        with self.assertRaisesRegex(program.Refusal, "a prefix more for each router, and a network has at most 256"):
-            playing.broken_links(asked, Network(text.split("schedule")[0].splitlines()), [], "made")
-        rules = "".join(f"rank 2 20.{number}.0.0/16\n" for number in range(62))
-        text = network_text(3, [(1, 2), (2, 3)], rules + "schedule\nstart 1 2\n")
-        with self.assertRaisesRegex(program.Refusal, "a rule more, and one for each peer, and 2 has 62 of 64"):
-            playing.broken_links(asked, Network(text.split("schedule")[0].splitlines()), [], "made")
+    def test_a_network_near_its_limits(self):
+        """Nothing is added to a network to ask it: one with 256 prefixes, and 64 rules of a router, is answered too."""
+        origins = "".join(f"origin 1 20.{number}.0.0/16\n" for number in range(256))
+        rules = "".join(f"rank 2 20.{number}.0.0/16\n" for number in range(64))
+        network = Network(network_text(3, [(1, 2), (2, 3)], origins.replace("origin 1 20.0.0.0/16\n", "") + rules).splitlines())
+        orders = ["start 1 2", "start 2 1", "rounds 20"]
+        self.assertEqual(self.broken(network, orders), {frozenset((2, 3))})
 
 
 class Film(unittest.TestCase):
@@ -501,9 +493,9 @@ class Film(unittest.TestCase):
         self.assertEqual([picture.has("broken") for picture in pictures], [[(1, 2)], [], [(1, 4)], [], [(1, 2)], []])
         self.assertEqual([sorted(picture.circles.get("changed", [])) for picture in pictures], [[], [], [2, 3, 4], [4], [2, 3], []])
         self.assertEqual([picture.texts["good"][-1] for picture in pictures],
-                         ["check without 1 2: stable", "snapshot 1 settled", "check without 1 4: stable", "snapshot 3 settled",
-                          "check without 1 2: stable", "snapshot 4 settled"])
-        self.assertEqual(pictures[2].texts["bad"], ["snapshot 2 abandoned 1 4 notup"])
+                         ["stable without link 1-2", "snapshot 1 settled", "stable without link 1-4", "snapshot 3 settled",
+                          "stable without link 1-2", "snapshot 4 settled"])
+        self.assertEqual(pictures[2].texts["bad"], ["no snapshot 2: session 1-4 is down"])
         self.assertEqual(pictures[3].texts["title"], ["4. the primary link is back: stuck"])
 
     def test_steps(self):
@@ -517,7 +509,7 @@ class Film(unittest.TestCase):
     def test_what_is_not_connected_is_not_judged(self):
         first, second, _ = self.pictures("examples/play/disagree.txt")
         self.assertEqual(("good" in first.texts, "bad" in first.texts), (False, False))
-        self.assertEqual(second.texts["good"], ["check without 1 2: stable"])
+        self.assertEqual(second.texts["good"], ["stable without link 1-2"])
 
     def test_each_order(self):
         text = (TOP / "examples/play/session.txt").read_text()
@@ -537,8 +529,8 @@ class Film(unittest.TestCase):
         self.assertEqual([picture.texts.get("seconds") for picture in pictures], [None, ["30 s"], ["60 s"], None, None])
         self.assertEqual([picture.has("broken") for picture in pictures], [[], [], [], [(1, 2)], [(1, 2)]])
         self.assertEqual([sorted(picture.has("route"))[0] for picture in pictures], [(2, 1)] * 4 + [(2, 3)])
-        self.assertEqual(pictures[3].texts["bad"], ["2 has 2-1, over the link 2 1 that is down"])
-        self.assertEqual(pictures[4].texts["open"], ["check without 1 2: stable, and 1 UPDATE on its way"])
+        self.assertEqual(pictures[3].texts["bad"], ["2 has 2-1, over the link 2-1 that is down"])
+        self.assertEqual(pictures[4].texts["open"], ["stable without link 1-2, and 1 UPDATE on its way"])
         self.assertEqual(pictures[1].texts["title"], ["2. the link 1 2 falls silent, and nobody is told"])
         later = self.pictures("examples/play/link-fails-silently.txt", "--from", 3, "--to", 4)
         self.assertEqual([picture.texts["title"][0][:2] for picture in later], ["3.", "4."])

@@ -9,9 +9,9 @@ import subprocess
 import unittest
 
 from browser import Page, browser_path
-from network import Network, parts_of, routes_of
+from bgpnet.network import Network, parts_of, routes_of
 from support import TOP, asked_program, run, start
-from tracing import events_of, orders_of
+from bgpnet.tracing import events_of, orders_of
 
 EXAMPLES = [TOP / "examples" / name for name in (
     "play/wedgie-whole.txt", "play/withdrawal.txt", "play/session.txt", "cut/disagree.txt", "cut/in-flight.txt")]
@@ -150,7 +150,7 @@ class Known(unittest.TestCase):
         for path in EXAMPLES:
             traced = Traced(path)
             numbers = traced.numbers(24)
-            done = subprocess.run([NODE, "-e", ASKS, str(TOP / "tools/page/run.js"), json.dumps(numbers)],
+            done = subprocess.run([NODE, "-e", ASKS, str(TOP / "tools/bgpnet/page/run.js"), json.dumps(numbers)],
                                   input=json.dumps(run_in(page_of_file(path))), capture_output=True, text=True)
             self.assertEqual(done.stderr, "")
             for at, said in zip(numbers, json.loads(done.stdout)):

@@ -4,9 +4,9 @@ import unittest
 from support import load  # noqa: F401, for it sets the path
 from bird_cases import ONE, OWN, TWO, bird, frr, line, pair, shape
 
-from configs.files import read_set
-from configs.ranks import Ranks, network_lines
-from program import Refusal
+from bgpnet.configs.files import read_set
+from bgpnet.configs.ranks import Ranks, network_lines
+from bgpnet.program import Refusal
 
 DIAMOND = [(1, 2), (1, 3), (1, 4), (2, 5), (3, 5), (4, 5)]
 
@@ -60,9 +60,9 @@ class Told(unittest.TestCase):
         files["r5.conf"] = bird(5, (1, 2)).replace("neighbor 10.255.2.1 as 64602", "neighbor 10.255.2.1 as 64699") \
             .replace("router id 10.255.5.1", "router id 10.255.1.1")
         self.assert_told(files, [
-            ("r3.conf:10", "every router is an AS of its own"), ("r4.conf:3", "AS 64602 is that of r2.conf:3 too"),
+            ("r4.conf:3", "AS 64602 is that of r2.conf:3 too"),
             ("r1.conf:10", "the password is not that"), ("r3.conf:3", "'frobnicate'"), ("r3.conf:9", "'redistribute"),
-            ("r5.conf:1", "the router id 10.255.1.1 is that of r1.conf:1"), ("r5.conf:13", "its address is one of 64602")])
+            ("r5.conf:1", "the router id 10.255.1.1 is that of r1.conf:1"), ("r5.conf:13", "its address is one of r2, AS 64602")])
 
     def test_all_of_the_ways(self):
         """Where the files and the sessions are taken: of each line the first."""

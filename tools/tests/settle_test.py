@@ -7,15 +7,13 @@ import random
 import tempfile
 import unittest
 
-from support import TOP, asked_program, load, run
+from support import TOP, asked_program, run
 
-import timing
-import tracing
-from live import GaveUp
-from network import Network, path_text, read_network, routes_of
-from stable import Answer, network_text, stable_assignments
-
-settle = load("settle")
+from bgpnet import settling, timing, tracing, wheels
+from bgpnet.answers import read_stable
+from bgpnet.live import GaveUp, live_paths
+from bgpnet.network import Network, path_text, read_network, routes_of
+from bgpnet.stable import network_text, stable_assignments
 
 PREFIX = "10.1.0.0/16"
 
@@ -75,9 +73,9 @@ class RandomPolicies(unittest.TestCase):
     def made(self, rule, seed):
         draw = random.Random(seed)
         rules = {router: rule(draw, router) for router in range(2, 6)}
-        words = {router: " ".join(map(settle.path_text, paths)) for router, paths in rules.items()}
+        words = {router: " ".join(map(path_text, paths)) for router, paths in rules.items()}
         network = Network(network_of(words).splitlines())
-        return rules, network, settle.live_paths(network, next(iter(network.origins)))
+        return rules, network, live_paths(network, next(iter(network.origins)))
 
     def test_assignments_and_wheels_of_seven_hundred_policies(self):
         seen, program = set(), asked_program()
@@ -88,7 +86,7 @@ class RandomPolicies(unittest.TestCase):
                 self.assertTrue(are_all)
                 self.assertEqual(sorted(tuple(chosen[router] for router in network.routers) for chosen in found),
                                  sorted(stable_ones(rules)))
-                wheel = settle.Spokes(live).wheel()
+                wheel = wheels.Spokes(live).wheel()
                 self.assertEqual(len(wheel), least_wheel(live))
                 self.assert_wheel(wheel, live)
                 self.assertTrue(wheel or len(found) == 1)
@@ -97,15 +95,15 @@ class RandomPolicies(unittest.TestCase):
 
     def assert_wheel(self, wheel, live):
         """Each router likes the way through the next better, and what it then has is the next one's path."""
-        for (path, better, through), (spoke, _, _) in zip(wheel, wheel[1:] + wheel[:1]):
-            own = live[path[0]]
-            self.assertLess(own.index(better), own.index(path))
-            self.assertEqual(spoke[0], through)
-            self.assertEqual(better[better.index(through):], spoke)
+        for rim, following in zip(wheel, wheel[1:] + wheel[:1]):
+            own = live[rim.path[0]]
+            self.assertLess(own.index(rim.better), own.index(rim.path))
+            self.assertEqual(following.path[0], rim.through)
+            self.assertEqual(rim.better[rim.better.index(rim.through):], following.path)
 
     def test_every_simple_path_where_there_is_no_rule(self):
         network = Network(network_of({}).splitlines())
-        live = settle.live_paths(network, next(iter(network.origins)))
+        live = live_paths(network, next(iter(network.origins)))
         for router in range(2, 6):
             others = [other for other in range(2, 6) if other != router]
             self.assertEqual(live[router], sorted(((router, *middle, 1) for size in range(4)
@@ -115,11 +113,11 @@ class RandomPolicies(unittest.TestCase):
         program = asked_program()
         for rule, seed in self.POLICIES[:20] + self.POLICIES[-20:]:
             rules, network, live = self.made(rule, seed)
-            stable, wheel = list(stable_ones(rules)), settle.Spokes(live).wheel()
-            ends = settle.play_orders(program, network, ["rising", "lock-step", 1, 2])
+            stable, wheel = list(stable_ones(rules)), wheels.Spokes(live).wheel()
+            ends = settling.play_orders(program, network, ["rising", "lock-step", 1, 2])
             with self.subTest(rule=rule.__name__, seed=seed):
                 for said, routes in ends:
-                    self.assertTrue(said in ("settled", settle.NEVER))
+                    self.assertTrue(said in ("settled", settling.NEVER))
                     self.assertTrue(said != "settled" or tuple(path for _, path in routes) in stable)
                     self.assertTrue(wheel or said == "settled")
 
@@ -165,7 +163,7 @@ class Timing(unittest.TestCase):
         self.assertEqual(sum(end["count"] for end in said["orders"]), 5)
         self.assertTrue(all(one["events"] > one["updates"] > 3 for one in counts))
         rising = next(one for one in counts if one["order"] == "rising")
-        order = settle.Order(Network((TOP / "examples/disagree.txt").read_text().split("\nassignment")[0].splitlines()), "rising")
+        order = settling.Order(Network((TOP / "examples/disagree.txt").read_text().split("\nassignment")[0].splitlines()), "rising")
         lines = asked_program().trace(order.whole(), "rising")
         place = next(at for at, line in enumerate(lines) if line.startswith("originate"))
         self.assertEqual(rising["updates"], sum(line.startswith("# tells") for line in lines[place:]))
@@ -303,12 +301,27 @@ class Printed(unittest.TestCase):
         self.assertNotIn("rank 2 ", network_text(paths, 1, {2}))
         with self.assertRaises(GaveUp):
             network_text(paths, 1)
-        answer = Answer(["prefix 10.0.0.0/8 stable 4", "route 1 10.0.0.0/8 1", "route 9 10.0.0.0/8 none",
-                         "dispute 1 10.0.0.0/8 stable 2 routers 2 3", "choice 2-3-1 3-1", "choice none 3-2-1",
-                         "dispute 2 10.0.0.0/8 stable 2 routers 4", "choice 4-1", "choice none"])
+        answer, = read_stable(["prefix 10.0.0.0/8 stable 4", "route 1 10.0.0.0/8 1", "route 9 10.0.0.0/8 none",
+                                "dispute 1 10.0.0.0/8 stable 2 routers 2 3", "choice 2-3-1 3-1", "choice none 3-2-1",
+                                "dispute 2 10.0.0.0/8 stable 2 routers 4", "choice 4-1", "choice none"])
         self.assertEqual(list(answer.assignments()), [
             {1: (1,), 9: (), 2: two, 3: three, 4: four}
             for two, three in (((2, 3, 1), (3, 1)), ((), (3, 2, 1))) for four in ((4, 1), ())])
+
+    def test_routers_that_follow(self):
+        """Of each choice of the disputes one assignment: a router that follows has the best path that its peer has."""
+        answer, = read_stable(["prefix 10.0.0.0/8 stable 2", "route 1 10.0.0.0/8 1", "dispute 1 10.0.0.0/8 stable 2 routers 2 3",
+                               "choice 2-3-1 3-1", "choice 2-1 3-2-1", "follow 4 10.0.0.0/8 4-3-1 4-2-1",
+                               "follow 5 10.0.0.0/8 none 5-4-2-1"])
+        self.assertEqual(answer.followers, {4: ((4, 3, 1), (4, 2, 1)), 5: ((), (5, 4, 2, 1))})
+        for best, wanted in (((4, 2, 1), [((4, 3, 1), ()), ((4, 2, 1), (5, 4, 2, 1))]),
+                             ((4, 3, 1), [((4, 3, 1), ()), ((4, 2, 1), (5, 4, 2, 1))])):
+            ranked = answer.ranked(lambda router, path: path != best)
+            self.assertEqual([(chosen[4], chosen[5]) for chosen in ranked.assignments()], wanted)
+        both, = read_stable(["prefix 10.0.0.0/8 stable 1", "route 1 10.0.0.0/8 1", "route 2 10.0.0.0/8 2-1",
+                             "follow 4 10.0.0.0/8 4-2-1 4-1"])
+        for best in ((4, 2, 1), (4, 1)):
+            self.assertEqual([chosen[4] for chosen in both.ranked(lambda router, path: path != best).assignments()], [best])
 
     def test_two_prefixes_and_a_wider_rule(self):
         text = ("router 1 10.0.0.1\nrouter 2 10.0.0.2\nrouter 3 10.0.0.3\nlink 1 2\nlink 2 3\nlink 1 3\n"
@@ -387,11 +400,11 @@ class Answered(unittest.TestCase):
             links |= {tuple(sorted(draw.sample(range(1, 8), 2))) for _ in range(5)}
             network = Network(lines + [f"link {one} {other}" for one, other in links] + [f"origin 1 {PREFIX}"])
             prefix = next(iter(network.origins))
-            found, live = settle.Found(program, network, prefix, 9), settle.live_paths(network, prefix)
+            found, live = settling.found_of(program, network, prefix, 9), live_paths(network, prefix)
             if max(map(len, live.values())) <= 32:
                 self.assertEqual((found.assignments, found.are_all), stable_assignments(program, live, 1, 9))
                 asked += 1
-            self.assertEqual(found.wheel, settle.Spokes(live).wheel())
+            self.assertEqual(list(found.wheel), wheels.Spokes(live).wheel())
         self.assertGreater(asked, 20)
 
     def test_too_many_paths_of_one_prefix(self):
@@ -444,9 +457,9 @@ class Answered(unittest.TestCase):
     def test_too_few_rounds_are_no_verdict(self):
         network = read_network(asked_program(), (TOP / "examples/disagree.txt").read_text(), "disagree")[0]
         for word in ("rising", "lock-step"):
-            order = settle.Order(network, word)
+            order = settling.Order(network, word)
             order.most = 2
-            self.assertEqual(settle.end_of(asked_program(), order, True), ("no verdict in 2 rounds", (), None))
+            self.assertEqual(settling.end_of(asked_program(), order, True), ("no verdict in 2 rounds", (), None))
 
     def test_json(self):
         status, out, error = run("settle", "examples/disagree.txt", "--play", 4, "--json")
@@ -467,7 +480,7 @@ class NeverRests(unittest.TestCase):
 
     def events(self, network, word, number):
         """The events of each of so many rounds of an order, by its trace."""
-        order = settle.Order(network, word)
+        order = settling.Order(network, word)
         lines = asked_program().trace(order.text(order.head + order.round * number), "order")
         first, rounds = len(network.lines) + len(order.head), [[]]
         ends = {first + at * len(order.round) for at in range(1, number + 1)}
@@ -488,7 +501,7 @@ class NeverRests(unittest.TestCase):
             text = lines + (TOP / f"examples/{name}.txt").read_text()
             network = read_network(asked_program(), text, name)[0]
             for word in words:
-                again = settle.end_of(asked_program(), settle.Order(network, word), True)[2]
+                again = settling.end_of(asked_program(), settling.Order(network, word), True)[2]
                 span = again.second - again.first
                 rounds = self.events(network, word, again.second + 3 * span)
                 with self.subTest(name=name, lines=lines, word=word):
@@ -501,18 +514,18 @@ class NeverRests(unittest.TestCase):
         """What routers keep is the same behind many rounds of the ring, and what is on its way is not."""
         replay = tracing.Replay(2)
         for line in ("advertise 1", "# tells 2 10.1.0.0/16 1"):
-            replay.read(line)
+            replay.read(tracing.read_row(line))
         replay.mark()
         for line in ("put 1 2", "# sends update announce 10.1.0.0/16 path 1 next 10.0.0.1"):
-            replay.read(line)
+            replay.read(tracing.read_row(line))
         self.assertEqual(replay.different, {("pipe", "1", "2")})
         for line in ("take 2 1", "# takes 44 octets", "handle 2 1",
                      "# hears update announce 10.1.0.0/16 path 1 next 10.0.0.1"):
-            replay.read(line)
+            replay.read(tracing.read_row(line))
         self.assertTrue(replay.is_known)
         self.assertEqual(replay.different, {("waiting", "1", "2"), ("heard", "1", "2", "10.1.0.0/16")})
         self.assertFalse(replay.now["taken", "1", "2"])
         self.assertFalse(replay.is_touched)
         for line in ("put 1 2", "# sends keepalive"):
-            replay.read(line)
+            replay.read(tracing.read_row(line))
         self.assertTrue(replay.is_touched)

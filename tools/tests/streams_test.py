@@ -16,8 +16,8 @@ import unittest.mock
 
 from support import TOP, asked_program, load, run
 
-import attributes
-import names
+from bgpnet import attributes, names
+from bgpnet.program import run_tool
 
 streams = load("streams")
 
@@ -33,7 +33,7 @@ def ran(*words, given=b""):
             unittest.mock.patch.object(sys, "stdin", io.TextIOWrapper(io.BytesIO(given))), \
             contextlib.redirect_stdout(out), contextlib.redirect_stderr(error):
         try:
-            streams.run_tool(streams.main)
+            run_tool(streams.main)
         except SystemExit as ended:
             return ended.code, out.getvalue(), error.getvalue()
 

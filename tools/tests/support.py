@@ -14,10 +14,10 @@ sys.path.insert(0, str(TOOLS))
 # Tools that are started as programs run in the Python of the tests.
 os.environ["PATH"] = os.pathsep.join([os.path.dirname(sys.executable), os.environ.get("PATH", os.defpath)])
 
-from program import Program, built, run_tool  # noqa: E402, for it stands beside the tools
+from bgpnet.program import Program, found_program, run_tool  # noqa: E402, for it stands beside the tools
 
 # The built program, as the words of tools/test name it.
-program_path = built()
+program_path = found_program()
 
 
 @functools.lru_cache(maxsize=None)
@@ -26,10 +26,12 @@ def compiled(path):
 
 
 def load(name):
-    """A tool as a module."""
+    """A tool as a module, loaded anew: a module of the package, or what is of the repository alone."""
+    path = TOOLS / f"bgpnet/commands/{name}.py"
+    path = path if path.exists() else TOOLS / name
     module = types.ModuleType(name)
-    module.__file__ = str(TOOLS / name)
-    exec(compiled(TOOLS / name), module.__dict__)
+    module.__file__ = str(path)
+    exec(compiled(path), module.__dict__)
     return module
 
 

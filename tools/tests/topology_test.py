@@ -134,9 +134,9 @@ class Policies(unittest.TestCase):
                          ["snapshot 1 settled", "route 1 10.1.0.0/16 1-3-7", "route 2 10.1.0.0/16 2-4-7"])
 
     def test_providers_in_a_circle(self):
-        given = b"1|2|-1\n2|3|-1\n3|1|-1\n3|4|-1\n"
-        self.assertEqual(run("topology", "--from", "as-rel", given=given),
-                         (1, "", "topology: 1, 2, 3: among these, providers are customers of their customers\n"))
+        for given in (b"1|2|-1\n2|3|-1\n3|1|-1\n3|4|-1\n", b"9|1|-1\n10|9|-1\n1|2|-1\n2|3|-1\n3|1|-1\n"):
+            self.assertEqual(run("topology", "--from", "as-rel", given=given),
+                             (1, "", "topology: 1, 2, 3: among these, providers are customers of their customers\n"))
 
 
 class Wishes(unittest.TestCase):

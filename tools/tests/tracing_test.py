@@ -1,9 +1,9 @@
 """What a moment of a run says, beside what `play` says of the text up to there."""
 import unittest
 
-from network import Network, parts_of, routes_of, words_of
+from bgpnet.network import Network, parts_of, routes_of, words_of
 from support import TOP, asked_program
-from tracing import Moment, events_of, orders_of
+from bgpnet.tracing import Moment, events_of, orders_of
 
 PLAY = TOP / "examples/play"
 RESTARTED = """\

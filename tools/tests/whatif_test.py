@@ -9,8 +9,8 @@ import unittest
 
 from support import TOP, asked_program, load, run
 
-import tracing
-from network import Network
+from bgpnet import tracing
+from bgpnet.network import Network
 
 topology, whatif = load("topology"), load("whatif")
 

@@ -1,0 +1,118 @@
+"""A route in the table of a router of BIRD, as its filters see it."""
+from bgpnet.configs.bird.values import BGP, EMPTY, STATIC, Address, Address6, Clist, Enum, Lclist, Pair, Path, Triple
+from bgpnet.configs.routes import Route
+
+OWN_STANDING, STANDING = 200, 100
+
+
+class Held(Route):
+    """A route with what a router of BIRD keeps of it beside the attributes of BGP.
+
+    `standing` is the number that BIRD calls preference. `is_marked` says that MED was just set, so that it is sent;
+    `sets` counts what was set of an own route, and `is_unset` says that the first was to unset an attribute. `near` is
+    the neighbor by whom the route came, None of an own one; `proto` the name of its protocol, `kind` that of an own
+    route's destination, `more` has the attributes that stay here. `emptied` names the empty lists that are defined,
+    `cleared` those that will be as soon as the route is in the table."""
+
+    __slots__ = ("standing", "is_marked", "sets", "is_unset", "near", "proto", "kind", "more", "emptied", "cleared")
+
+    def __init__(self, **attributes):
+        super().__init__(**attributes)
+        self.standing, self.is_marked, self.sets, self.near, self.proto = STANDING, False, 0, None, ""
+        self.kind, self.more, self.is_unset = None, {}, False
+        self.emptied = self.cleared = frozenset()
+
+    def copy(self):
+        found = Held(path=self.path, origin=self.origin, med=self.med, has_med=self.has_med,
+                     preference=self.preference, has_preference=self.has_preference, communities=self.communities,
+                     large=self.large, customer=self.customer, notes=None if self.notes is None else dict(self.notes))
+        found.standing, found.is_marked, found.sets, found.near = self.standing, self.is_marked, self.sets, self.near
+        found.proto, found.kind, found.more, found.emptied = self.proto, self.kind, dict(self.more), self.emptied
+        found.cleared = self.cleared
+        return found
+
+    def attributes(self):
+        return super().attributes() + (self.standing, self.is_marked, self.proto, self.kind, self.emptied,
+                                       tuple(sorted(self.more.items())))
+
+    def above(self):
+        usual = STANDING if self.near else OWN_STANDING
+        return [("preference", f"preference {self.standing}")] * (self.standing != usual)
+
+    # ---- as filters read and set it
+
+    def read(self, name):
+        """The value of an attribute, None where it is undefined."""
+        if name in self.more:
+            return self.more[name]
+        value = READ[name](self) if name in READ else None
+        return NONE[type(value)] if value == () and name not in self.emptied else value
+
+    def write(self, name, value):
+        """Sets an attribute; None leaves it undefined."""
+        if name in WRITE:
+            WRITE[name](self, value)
+            is_empty = value == ()
+            is_none = is_empty and value is NONE[type(value)]
+            self.emptied = self.emptied.difference((name,)).union((name,) * (is_empty and not is_none))
+            self.cleared = self.cleared.difference((name,)).union((name,) * is_none)
+        else:
+            self.more[name] = value
+
+    def come(self):
+        """What becomes of the route as it comes into the table: lists that were emptied are defined, and no MED was
+        just set."""
+        self.is_marked, self.emptied = False, self.emptied | self.cleared
+
+    def write_med(self, value):
+        self.med, self.has_med, self.is_marked = value or 0, value is not None, value is not None
+
+    def write_preference(self, value):
+        self.preference, self.has_preference = value or 0, value is not None
+
+    def write_path(self, value):
+        self.path = tuple(value or ())
+
+    def write_origin(self, value):
+        self.origin = None if value is None else value.number
+
+    def write_communities(self, value):
+        self.communities = tuple(map(int, value or ()))
+
+    def write_large(self, value):
+        self.large = tuple(map(tuple, value or ()))
+
+    def write_standing(self, value):
+        self.standing = value
+
+    def write_customer(self, value):
+        self.customer = value
+
+
+def address_of(route):
+    """The address of the neighbor by whom a route came."""
+    return Address(route.near.address) if route.near else Address6("::")
+
+
+# The lists that are not defined.
+NONE = {type(value): value for value in EMPTY.values()}
+READ = {
+    "bgp_path": lambda route: Path(route.path),
+    "bgp_origin": lambda route: None if route.origin is None else Enum("origin", route.origin),
+    "bgp_local_pref": lambda route: route.preference if route.has_preference else None,
+    "bgp_med": lambda route: route.med if route.has_med else None,
+    "bgp_otc": lambda route: route.customer,
+    "bgp_community": lambda route: Clist(map(Pair, route.communities)),
+    "bgp_large_community": lambda route: Lclist(map(Triple, route.large)),
+    "preference": lambda route: route.standing,
+    "proto": lambda route: route.proto,
+    "source": lambda route: BGP if route.near else STATIC,
+    "from": address_of,
+    "bgp_next_hop": lambda route: address_of(route) if route.near else None,
+    "gw": lambda route: address_of(route) if route.near and route.near.is_direct else Address6("::"),
+    "dest": lambda route: Enum("dest", route.kind if route.near is None else 1 if route.near.is_direct else 3),
+    "scope": lambda route: Enum("scope", 4),
+}
+WRITE = {"bgp_path": Held.write_path, "bgp_origin": Held.write_origin, "bgp_local_pref": Held.write_preference,
+         "bgp_med": Held.write_med, "bgp_otc": Held.write_customer, "bgp_community": Held.write_communities,
+         "bgp_large_community": Held.write_large, "preference": Held.write_standing}

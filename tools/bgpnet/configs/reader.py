@@ -1,0 +1,132 @@
+"""Reads the configuration of a router line by line, as FRR obeys it."""
+from bgpnet.configs.bgp_lines import BgpLines
+from bgpnet.configs.igp_lines import IgpLines
+from bgpnet.configs.places import Place, refusal
+from bgpnet.configs.policy_lines import PolicyLines
+from bgpnet.configs.router import Line
+
+MOST_CALLS = 10
+
+
+class Reader(BgpLines, PolicyLines, IgpLines):
+    """Obeys all lines of one file."""
+
+
+def check_calls(router, name):
+    """Refuses a route-map whose calls go in a circle, or too deep."""
+    def depth(name, above):
+        if name in above:
+            raise refusal(router.maps[name].place, f"route-map {name} is called by a map that it calls")
+        calls = [entry.call for entry in router.maps[name].ordered() if entry.call and entry.call.name in router.maps]
+        return max((1 + depth(call.name, above + [name]) for call in calls), default=0)
+
+    if depth(name, []) > MOST_CALLS:
+        raise refusal(router.maps[name].place, f"route-map {name}: more than {MOST_CALLS} calls in one another")
+
+
+def check_detection(router, neighbor):
+    """Refuses the detection of loops by the sender where a map excludes AS numbers: else the peer finds the same."""
+    excludes = any("exclude" in entry.sets for one in router.maps.values() for entry in one.ordered())
+    if excludes and "loop detection" in neighbor.said:
+        raise refusal(neighbor.said["loop detection"].place, "sender-as-path-loop-detection beside 'set as-path "
+                      "exclude': what is told depends on which neighbors FRR tells alike")
+
+
+def undefined(router):
+    """A warning for each name that is nowhere: what it then is to FRR."""
+    def lacks(kind, name, place, what, effect):
+        if name not in router.lists.get(kind, router.maps):
+            router.warn(place, f"there is no {what} {name}: {effect}")
+
+    lists = {"distribute-list": "access-list", "prefix-list": "prefix-list", "filter-list": "as-path"}
+    for neighbor in [*router.groups.values(), *router.neighbors.values()]:
+        for (kind, direction), line in neighbor.policies.items():
+            what = lists.get(kind, kind)
+            lacks(what, line.name, line.place, what, f"it denies everything {direction}")
+    for network in router.networks.values():
+        if network.map_name:
+            lacks("route-map", network.map_name, network.place, "route-map", "the network is not announced")
+    for entry in (entry for one in router.maps.values() for entry in one.ordered()):
+        for kind, (value, place) in entry.matches.items():
+            if kind in router.lists:
+                lacks(kind, value[0] if isinstance(value, tuple) else value, place, f"{kind} list", "it fits nothing")
+        for kind, of in (("comm-list", "community"), ("large-comm-list", "large-community")):
+            if kind in entry.sets:
+                value, place = entry.sets[kind]
+                lacks(of, value, place, f"{of} list", "nothing is deleted")
+        if entry.call:
+            lacks("route-map", entry.call.name, entry.call.place, "route-map", "the call does nothing")
+
+
+def without_entries(router):
+    """A warning for each prefix-list of a description alone: what it is to FRR depends on the order of the lines."""
+    empty = {name: one for name, one in router.lists["prefix-list"].items() if not one.entries}
+    for neighbor in [*router.groups.values(), *router.neighbors.values()]:
+        for (kind, direction), line in neighbor.policies.items():
+            if kind == "prefix-list" and line.name in empty:
+                is_above = empty[line.name].place.line < line.place.line
+                effect = "permits" if is_above else "denies"
+                router.warn(line.place, f"prefix-list {line.name} has no entries: it {effect} everything {direction}")
+    for entry in (entry for one in router.maps.values() for entry in one.ordered()):
+        value, place = entry.matches.get("prefix-list", (None, None))
+        if value in empty:
+            is_above = empty[value].place.line < place.line
+            router.warn(place, f"prefix-list {value} has no entries: it fits {'nothing' if is_above else 'everything'}")
+
+
+def waiting(router):
+    """A warning for each neighbor at which UPDATEs wait, and what that may come to where duplicates are suppressed."""
+    suppresses = router.suppresses is None or router.suppresses.name
+    for neighbor in [*router.groups.values(), *router.neighbors.values()]:
+        line = neighbor.said.get("interval")
+        if line and line.name:
+            said = "which changes no end, and may change which of several ends comes"
+            if suppresses:
+                said = ("and FRR may leave the neighbor without a route that it has: one that comes again while its "
+                        "withdrawal waits is suppressed as a duplicate, and the withdrawal goes out all the same; not "
+                        "so with 'no bgp suppress-duplicates'")
+            router.warn(line.place, f"neighbor {neighbor.key} advertisement-interval: UPDATEs wait up to {line.name} "
+                                    f"seconds, {said}")
+
+
+def choose_id(router):
+    """Takes the router id that the interfaces give: the greatest address of `lo`, else of the others."""
+    own = [address for address in router.loopbacks or router.addresses if address >> 24 != 127]
+    if not own:
+        raise refusal(router.place, "no line 'bgp router-id', and no interface's address to take for it")
+    router.router_id = Line(max(own), router.addresses[max(own)])
+    router.warn(router.place, f"no line 'bgp router-id': it is taken to be the address at {router.router_id.place}")
+
+
+def obey(text, name):
+    """The router that a file is the configuration of, as far as its lines are taken, and the reasons why others are
+    refused."""
+    reader = Reader(text, name)
+    router, reasons = reader.router, reader.reasons
+    if reasons:
+        router.is_whole = False
+    elif router.asn is None:
+        reasons.add(refusal(Place(name, 1), "no configuration of a router: there is no line 'router bgp'"))
+        return router, reasons
+    elif router.router_id is None:
+        reasons.attempt(choose_id, router)
+    for network in router.networks.values():
+        if router.option("bgp network import-check"):
+            router.warn(network.place, "network: taken as announced; with import-check FRR announces it where the "
+                                       "route is in its table")
+            break
+    for name in router.maps:
+        reasons.attempt(check_calls, router, name)
+    for neighbor in [*router.groups.values(), *router.neighbors.values()]:
+        reasons.attempt(check_detection, router, neighbor)
+    undefined(router)
+    without_entries(router)
+    waiting(router)
+    return router, reasons
+
+
+def read_router(text, name):
+    """The router that a file is the configuration of."""
+    router, reasons = obey(text, name)
+    reasons.refuse()
+    return router
