@@ -6,7 +6,7 @@ use stable_paths::laws::{
     best_by_rank_is_best, disagree_chooses, each_network_has_its_model, no_origin_no_path,
     one_best, stable_is_the_models,
 };
-use stable_paths::{Assignment, Check, Instance, StableError, check};
+use stable_paths::{Assignment, Check, Instance, Mover, StableError, check, movers};
 use std::alloc::Global;
 use std::process::Abort;
 use std::test::*;
@@ -118,6 +118,51 @@ static OF_DISAGREE: [Case; 4] = [
 #[test]
 fn two_that_prefer_each_other(rt: HostRuntime) -> Result<(), NetError> {
     checks(&rt, rt.alloc(), &DISAGREE, &OF_DISAGREE)
+}
+
+// A router that would move, its path and its best.
+type Moving = (Asn, &'static [Asn], &'static [Asn]);
+
+fn are_movers(listed: &[Mover], wanted: &[Moving]) -> bool {
+    if listed.len() != wanted.len() {
+        return false;
+    }
+    for (mover, (router, has, best)) in listed.iter().zip(wanted.iter()) {
+        if mover.router != *router
+            || mover.has.as_slice() != *has
+            || mover.best.as_slice() != *best
+        {
+            return false;
+        }
+    }
+    true
+}
+
+fn lists_movers(alloc: Global, net: &Network, paths: &[&[Asn]], wanted: &[Moving]) -> bool {
+    let mut assignment = Assignment::new(alloc);
+    if !sets_all(alloc, &mut assignment, paths) {
+        return false;
+    }
+    let Some(prefix) = prefix() else {
+        return false;
+    };
+    if !net.names(&prefix) {
+        return false;
+    }
+    match movers(alloc, &Instance::new(net, &prefix), &assignment) {
+        Ok(listed) => are_movers(&listed, wanted),
+        Err(_) => false,
+    }
+}
+
+#[test]
+fn all_that_would_move_are_listed(rt: HostRuntime) -> Result<(), NetError> {
+    let alloc = rt.alloc();
+    let net = network(alloc, &DISAGREE)?;
+    let both: [Moving; 2] = [(2, &[2, 1], &[2, 3, 1]), (3, &[3, 1], &[3, 2, 1])];
+    assert!(&rt; lists_movers(alloc, &net, &[&[1], &[2, 1], &[3, 1]], &both));
+    assert!(&rt; lists_movers(alloc, &net, &[&[1], &[2, 3, 1], &[3, 1]], &[]));
+    Ok(())
 }
 
 // No assignment is stable; this is one.
