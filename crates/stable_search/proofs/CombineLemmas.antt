@@ -1,8 +1,8 @@
 -- Of each part one of its choices: the combinations, and that each is of a stable assignment.
-use Rattle.std.proofs.Common.{◌≡◌, ◌≢◌, ℕ, zero, suc, ◌<◌, ◌+◌, ◌*◌, ◌==◌, Bool, true, false, cond, List, [], ◌∷◌, ◌++◌, length, get_or, map, refl, sym, ap, subst, ◌∙◌, eq-eqb, ne_eqb, arith, inl, inr}
+use Rattle.std.proofs.Common.{◌≡◌, ◌≢◌, ℕ, zero, suc, ◌<◌, ◌+◌, ◌*◌, ◌==◌, Bool, true, false, cond, List, [], ◌∷◌, ◌++◌, length, get_or, map, refl, sym, ap, subst, ◌∙◌, eq-eqb, ne_eqb, arith, inl, inr, ◌⊎◌}
 use Rattle.std.specs.Prelude.{not, filter}
 use Rattle.std.specs.List.{All, AllPairs, Contains}
-use Rattle.std.proofs.lemmas.Bool.{cases_Bool, both_ways}
+use Rattle.std.proofs.lemmas.Bool.{cases_Bool, both_ways, cases_eq}
 use Rattle.std.proofs.lemmas.List.Kept.{AllPairs-filter}
 use Rattle.std.proofs.lemmas.List.{length-map, length-append, get_or-map}
 use Rattle.std.proofs.lemmas.List.Elements.{All-filter, Contains-get_or, Contains-append_left, Contains-append_right, Contains-append_cases}
@@ -154,7 +154,7 @@ in_chosen paths (part ∷ parts) c =
 -- ---- the assignment of a combination
 
 -- the path of a router in a choice of these routers; of another router the other one
-path_in : List ℕ → List (List ℕ) → ℕ → List ℕ → List ℕ
+pub path_in : List ℕ → List (List ℕ) → ℕ → List ℕ → List ℕ
 path_in [] choice u other = other
 path_in (v ∷ vs) [] u other = other
 path_in (v ∷ vs) (path ∷ paths) u other = cond (v == u) path (path_in vs paths u other)
@@ -171,6 +171,12 @@ map_same f g (u ∷ us) same =
     let later : map f us ≡ map g us = map_same f g us (λ v c. same v (suc c.0, omega (arith, c.1), c.2)) in
     ap (λ (path : List ℕ). path ∷ map f us) here ∙ ap (λ (paths : List (List ℕ)). g u ∷ paths) later
 
+-- a function is the same at routers of a list
+pub same_in : (f g : ℕ → List ℕ) (us : List ℕ) (u : ℕ) → map f us ≡ map g us → Contains us u → f u ≡ g u
+same_in f g [] u e c = absurd (omega (arith, c.1))
+same_in f g (v ∷ us) u e (zero, lt, c) = let first : f v ≡ g v = cc e in subst (λ (w : ℕ). f w ≡ g w) c first
+same_in f g (v ∷ us) u e (suc i, lt, c) = let rest : map f us ≡ map g us = cc e in same_in f g us u rest (i, omega (arith, lt), c)
+
 path_passed : (v : ℕ) (vs : List ℕ) (path : List ℕ) (paths : List (List ℕ)) (u : ℕ) (other : List ℕ) → (v ≢ u) → path_in (v ∷ vs) (path ∷ paths) u other ≡ path_in vs paths u other
 unfolding path_in
 path_passed v vs path paths u other apart = ap (λ (b : Bool). cond b path (path_in vs paths u other)) (ne_eqb v u apart)
@@ -180,7 +186,7 @@ unfolding path_in
 path_found v vs path paths other = ap (λ (b : Bool). cond b path (path_in vs paths v other)) (eq-eqb v v refl)
 
 -- the routers of the choice have its paths
-have_choice : (us : List ℕ) (choice : List (List ℕ)) (f : ℕ → List ℕ) → AllPairs (λ u v. u < v) us → length choice ≡ length us → map (λ u. path_in us choice u (f u)) us ≡ choice
+pub have_choice : (us : List ℕ) (choice : List (List ℕ)) (f : ℕ → List ℕ) → AllPairs (λ u v. u < v) us → length choice ≡ length us → map (λ u. path_in us choice u (f u)) us ≡ choice
 have_choice [] [] f rising size = refl
 have_choice [] (path ∷ paths) f rising size = absurd (omega (arith, size))
 have_choice (v ∷ vs) [] f rising size = absurd (omega (arith, size))
@@ -191,6 +197,19 @@ have_choice (v ∷ vs) (path ∷ paths) f rising size =
     path_passed v vs path paths u (f u) (λ e. omega (arith, up, c.2, e)))) in
     let rest : map (λ u. path_in vs paths u (f u)) vs ≡ paths = have_choice vs paths f (λ i j d lt inside. rising (suc i) (suc j) d (omega (arith, lt)) (omega (arith, inside))) (omega (arith, size)) in
     ap (λ (x : List ℕ). x ∷ map (λ u. path_in (v ∷ vs) (path ∷ paths) u (f u)) vs) (path_found v vs path paths (f v)) ∙ ap (λ (xs : List (List ℕ)). path ∷ xs) (passed ∙ rest)
+
+-- a router has the other path, or is one of these
+pub either_path : (us : List ℕ) (choice : List (List ℕ)) (u : ℕ) (other : List ℕ) → (path_in us choice u other ≡ other) ⊎ Contains us u
+unfolding path_in
+either_path [] choice u other = inl refl
+either_path (v ∷ vs) [] u other = inl refl
+either_path (v ∷ vs) (path ∷ paths) u other = elim (cases_eq v u) [
+  | inl e ↦ inr (0, omega arith, e)
+  | inr apart ↦ elim (either_path vs paths u other) [
+    | inl same ↦ inl (path_passed v vs path paths u other apart ∙ same)
+    | inr c ↦ inr (suc c.0, omega (arith, c.1), c.2)
+  ]
+]
 
 -- another router has the other path
 not_in : (us : List ℕ) (choice : List (List ℕ)) (u : ℕ) (other : List ℕ) → (Contains us u → ⊥) → path_in us choice u other ≡ other

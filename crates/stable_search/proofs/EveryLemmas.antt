@@ -25,7 +25,7 @@ use Rattle.stable_search.proofs.PlaceLemmas.{stands, here}
 use Rattle.stable_search.proofs.RelateLemmas.{same_seat}
 use Rattle.ranked_policy.proofs.Reached.{linked_back}
 
-linked_apart : (net : Plan) → IsNetwork net → (u v : ℕ) → Linked net.links u v → u ≢ v
+pub linked_apart : (net : Plan) → IsNetwork net → (u v : ℕ) → Linked net.links u v → u ≢ v
 linked_apart net is u v a same =
     let apart = is.plan.links.apart a.0 a.1 a.2 in
     apart (elim (subst (λ (l : Link). Joins l u v) (sym a.3) a.4) [ inl x ↦ x.0 ∙ (same ∙ sym x.1) | inr x ↦ x.0 ∙ (sym same ∙ sym x.1) ])
@@ -33,7 +33,7 @@ linked_apart net is u v a same =
 -- ---- one end of a link
 
 module _ (p : Problem) (seat : Seat) (x : IsSeat p seat) where
-  begins : (path : List ℕ) → Contains seat.values.items path → (path ≡ []) ⊎ BeginsWith path x.table.router
+  pub begins : (path : List ℕ) → Contains seat.values.items path → (path ≡ []) ⊎ BeginsWith path x.table.router
   begins path c = elim (x.may path c) [
     | inl own ↦ inr ([], own.1)
     | inr other ↦ elim other.1 [
@@ -53,7 +53,7 @@ module _ (p : Problem) (seat : Seat) (x : IsSeat p seat) where
             ((λ none. not_nil x.table.router b.0.0 (sym b.0.1 ∙ none)), (x.speaks.prefers path (x.table.router ∷ theirs)).0 b.1));
       }
 
-  at_end : (v : ℕ) (path theirs : List ℕ) → (path ≡ []) ⊎ BeginsWith path x.table.router
+  pub at_end : (v : ℕ) (path theirs : List ℕ) → (path ≡ []) ⊎ BeginsWith path x.table.router
       → ((Originates x.table p.prefix x.table.router → ⊥) → FitsAt x.table p.prefix v path theirs) → FitsEnd seat v path theirs
   at_end v path theirs starts fits = elim (cases_Bool seat.is_origin) [
     | inl own ↦ inl own
@@ -283,7 +283,7 @@ module _ (seats : List Seat) (sets : List ℕ) (values : AreValues seats sets) (
   choice_size j jlt = (of.shown j jlt).size ∙ sym of.routers.size
 
   module _ (paths : ℕ → List ℕ) where
-    has_at : (j : ℕ) → j < length group.picks → get_or part.choices j [] ≡ map paths part.routers → (k : ℕ) → k < length group.places → (s : Seat) → StandsAt seats (get_or group.places k 0) s
+    pub has_at : (j : ℕ) → j < length group.picks → get_or part.choices j [] ≡ map paths part.routers → (k : ℕ) → k < length group.places → (s : Seat) → StandsAt seats (get_or group.places k 0) s
         → get_or s.values.items (get_or (get_or group.picks j []) k 0) [] ≡ paths s.router
     has_at j jlt e k klt s st =
         sym (pick_path j k jlt klt s st).1

@@ -1,14 +1,15 @@
 -- Groups of places that follow none, and places that follow.
-use Rattle.std.proofs.Common.{◌≡◌, ◌≢◌, ℕ, ◌<◌, List, length, get_or, sym, ap, ◌∙◌, arith, inl, inr}
+use Rattle.std.proofs.Common.{◌≡◌, ◌≢◌, ℕ, ◌<◌, List, length, get_or, refl, sym, ap, ◌∙◌, arith, inl, inr}
 use Rattle.std.specs.List.{All, Any, Contains}
 use Rattle.std.proofs.lemmas.Bool.{cases_lt}
+use Rattle.std.proofs.lemmas.List.{get_or_default}
 use Rattle.std.proofs.lemmas.List.Elements.{Contains-get_or}
 use Rattle.stable_search.specs.declared.group.Group.{Group}
 use Rattle.stable_search.specs.declared.way.Way.{Way}
 use Rattle.stable_search.specs.Following.{AreLevels}
 use Rattle.stable_search.specs.Groups.{IsAway, IsGroup, AreGroups, IsLed}
 use Rattle.stable_search.specs.Led.{IsOpen, AreLed}
-use Rattle.stable_search.specs.Parting.{InPart, KeepsPart}
+use Rattle.stable_search.specs.Parting.{InPart, KeepsPart, AreCopies}
 use Rattle.stable_search.specs.Picks.{Narrows}
 use Rattle.stable_search.proofs.FollowLemmas.{levels_start}
 use Rattle.stable_search.proofs.NarrowLemmas.{narrows_start}
@@ -25,15 +26,16 @@ one_place sets group place is all = elim (cases_lt 1 (length group.places)) [
   | inr few ↦ (let some = is.some in omega (arith, some, few))
 ]
 
-pub led_of : (ways : List Way) (old wide sets levels : List ℕ) (core : List Way) (groups : List Group) → Narrows ways old wide → Narrows ways wide sets → AreLevels ways wide levels → KeepsPart levels 0 ways core → All (InPart levels 0) core → AreGroups core sets groups
+pub led_of : (ways : List Way) (old wide sets levels : List ℕ) (core : List Way) (groups : List Group) → Narrows ways old wide → Narrows ways wide sets → AreLevels ways wide levels → KeepsPart levels 0 ways core → AreCopies levels 0 ways core → All (InPart levels 0) core → AreGroups core sets groups
     → (Any (IsLed levels) groups → Any (IsOpen levels) groups) → AreLed ways old sets levels groups
-led_of ways old wide sets levels core groups before narrowed are keeps inside fall needed = record {
+led_of ways old wide sets levels core groups before narrowed are keeps copies inside fall needed = record {
   wide = wide;
   before = before;
   narrowed = narrowed;
   levels_are = are;
   core = core;
   keeps = keeps;
+  copies = copies;
   fall = fall;
   alone = λ k d lt place c up.
       (let is = fall.each k d lt in
@@ -55,6 +57,10 @@ led_by_none ways old sets levels groups before size flat fall = record {
   levels_are = levels_start ways sets levels size flat;
   core = ways;
   keeps = λ pick. ((λ all k d lt in_part. all k d lt), (λ all k d lt. all k d lt (flat (get_or ways k d).from, flat (get_or ways k d).to)));
+  copies = record {
+    all = λ k d lt in_part. (k, get_or ways k d, lt, get_or_default ways k (get_or ways k d) d lt, (refl, refl, refl));
+    only = λ k d lt. (k, get_or ways k d, lt, get_or_default ways k (get_or ways k d) d lt, (refl, refl, refl));
+  };
   fall = fall;
   alone = λ k d lt place c up. (let z = flat place in absurd (omega (arith, z, up)));
   needed = λ any. (let z = flat (get_or any.1.places 0 0) in let up = any.4.1 in absurd (omega (arith, z, up)));

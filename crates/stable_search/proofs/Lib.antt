@@ -18,4 +18,5 @@ pub mod FixLemmas
 pub mod ReachLemmas
 pub mod RefusalLemmas
 pub mod CombineLemmas
+pub mod AmongLemmas
 pub mod WholeLemmas

@@ -169,6 +169,7 @@ fewer p most seat x = record {
   may = x.may;
   has = λ paths stable low. x.has paths stable (λ more. (let le = low more in omega (arith, le)));
   distinct = x.distinct;
+  some = x.some;
   few = x.few;
 }
 
@@ -183,6 +184,7 @@ closed p most more seat not x = record {
   may = x.may;
   has = λ paths stable low. x.has paths stable (λ is_open. absurd (not is_open));
   distinct = x.distinct;
+  some = x.some;
   few = x.few;
 }
 
@@ -197,6 +199,7 @@ bounded p most more seat short x = record {
   may = x.may;
   has = λ paths stable low. x.has paths stable (λ is_open. short paths stable);
   distinct = x.distinct;
+  some = x.some;
   few = x.few;
 }
 
@@ -335,6 +338,7 @@ module _ (law : EachPolicyIsAnOrder) (p : Problem) (is : IsInstance p) where
               ((e.adds.exact (paths it.router)).1
               (has_one paths stable (subst (λ (n : ℕ). length (paths n) ≤ most + 1) e.router (low (subst IsTrue (sym e.is_open) is_open)))));
           distinct = e.adds.distinct x.distinct;
+          some = (let c = (e.adds.exact (get_or it.values.items 0 [])).1 (inl (Contains-get_or it.values.items 0 [] x.some)) in omega (arith, c.1));
           few = e.few;
         }
           where
@@ -373,6 +377,7 @@ module _ (law : EachPolicyIsAnOrder) (p : Problem) (is : IsInstance p) where
     may = x.may;
     has = λ paths stable. x.has paths stable (λ more. short paths stable (x.other more));
     distinct = x.distinct;
+    some = x.some;
     few = x.few;
   }
     where

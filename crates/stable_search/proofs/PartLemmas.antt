@@ -16,9 +16,8 @@ use Rattle.stable_search.specs.declared.seat.Seat.{Seat}
 use Rattle.stable_search.specs.declared.stop.Stop.TheVariants as stops
 use Rattle.stable_search.specs.declared.way.Way.{Way}
 use Rattle.stable_search.specs.Picks.{Has, IsIn, FitsWay, IsWithin, AreWithin, Solves, AreAll, AddsMore, IsFull, Narrows, SeesAll}
-use Rattle.stable_search.specs.Groups.{at_places, IsAway, IsPickOf, IsGroup, AreGroups, RefusesSearch, ArePlaces, FitsBetween, RefusesPlaces, FindsGroups}
-use Rattle.stable_search.specs.Parting.{IsFree, IsAlone, AreLeast, Joins, AreLabels, InPart, KeepsPart, IsPartSets, IsPartGroup, AreGrouped}
-use Rattle.stable_search.proofs.NarrowLemmas.{in_before}
+use Rattle.stable_search.specs.Groups.{at_places, IsAway, IsPickOf, IsGroup, AreGroups, AreOwn, RefusesSearch, ArePlaces, FitsBetween, RefusesPlaces}
+use Rattle.stable_search.specs.Parting.{IsFree, IsAlone, AreLeast, Joins, AreLabels, InPart, KeepsPart, IsCopy, AreCopies, IsPartSets, IsPartGroup, AreGrouped}
 
 pub in_all : (a b v : ℕ) → bit_and a b ≡ a → Has a v → Has b v
 in_all a b v e h =
@@ -197,7 +196,10 @@ places_skip labels label n places new not e inv = subst (HasPlaces labels label 
 
 -- ---- ways of a label
 
-same_fit : (pick : List ℕ) (way copy : Way) → copy.from ≡ way.from → copy.to ≡ way.to → copy.fits.items ≡ way.fits.items → (FitsWay pick copy ↔ FitsWay pick way)
+any_more : {X : Type 0} (P : X → Type 0) (xs : List X) (y : X) → Any P xs → Any P (xs ++ y ∷ [])
+any_more P xs y h = (let size = length-append xs (y ∷ []) in (h.0, h.1, omega (arith, size, h.2), get_or_append_left xs (y ∷ []) h.1 h.0 h.2 ∙ h.3, h.4))
+
+pub same_fit : (pick : List ℕ) (way copy : Way) → copy.from ≡ way.from → copy.to ≡ way.to → copy.fits.items ≡ way.fits.items → (FitsWay pick copy ↔ FitsWay pick way)
 same_fit pick way copy a b f =
     let set_is : get_or copy.fits.items (get_or pick copy.from 0) 0 ≡ get_or way.fits.items (get_or pick way.from 0) 0 =
     ap (λ (xs : List ℕ). get_or xs (get_or pick copy.from 0) 0) f ∙ ap (λ (k : ℕ). get_or way.fits.items (get_or pick k 0) 0) a in
@@ -209,30 +211,40 @@ module _ (labels : List ℕ) (label : ℕ) (ways : List Way) (i : ℕ) (way : Wa
   more : take (i + 1) ways ≡ take i ways ++ way ∷ []
   more = take_more ways i way lt ∙ ap (λ (w : Way). take i ways ++ w ∷ []) (sym is)
 
-  first_all : (P : Way → Type 0) → All P (take (i + 1) ways) → All P (take i ways) × P way
-  first_all P all = split_last P (take i ways) way (subst (All P) more all)
+  passed_any : (P : Way → Type 0) → Any P (take i ways) → Any P (take (i + 1) ways)
+  passed_any P any = subst (Any P) (sym more) (any_more P (take i ways) way any)
 
   last_all : (P : Way → Type 0) → All P (take i ways) → P way → All P (take (i + 1) ways)
   last_all P all p = subst (All P) (sym more) (All-push P (take i ways) way all p)
 
-  pub part_add : (part new : List Way) (copy : Way) → copy.from ≡ way.from → copy.to ≡ way.to → copy.fits.items ≡ way.fits.items → new ≡ part ++ copy ∷ [] → InPart labels label way
-      → KeepsPart labels label (take i ways) part → KeepsPart labels label (take (i + 1) ways) new
-  part_add part new copy a b f e inside keeps pick =
-      let fit = same_fit pick way copy a b f in
-      let P : Way → Type 0 = λ w. InPart labels label w → FitsWay pick w in (
-        λ all.
-            (let parts = split_last (FitsWay pick) part copy (subst (All (FitsWay pick)) e all) in
-            last_all P ((keeps pick).0 parts.0) (λ _. fit.0 parts.1)),
-        λ all.
-            (let parts = first_all P all in
-            subst (All (FitsWay pick)) (sym e) (All-push (FitsWay pick) part copy ((keeps pick).1 parts.0) (fit.1 (parts.1 inside)))),
-      )
+  pub copies_add : (part new : List Way) (copy : Way) → IsCopy way copy → new ≡ part ++ copy ∷ [] → AreCopies labels label (take i ways) part → AreCopies labels label (take (i + 1) ways) new
+  copies_add part new copy same e are = subst (AreCopies labels label (take (i + 1) ways)) (sym e) (record {
+    all = last_all (λ w. InPart labels label w → Any (IsCopy w) (part ++ copy ∷ []))
+        (λ k d l inside. any_more (IsCopy (get_or (take i ways) k d)) part copy (are.all k d l inside))
+        (λ inside. Any-push (IsCopy way) part copy same);
+    only = All-push (λ c. Any (λ w. IsCopy w c) (take (i + 1) ways)) part copy
+        (λ k d l. passed_any (λ w. IsCopy w (get_or part k d)) (are.only k d l))
+        (subst (Any (λ w. IsCopy w copy)) (sym more) (Any-push (λ w. IsCopy w copy) (take i ways) way same));
+  })
 
-  pub part_skip : (part new : List Way) → new ≡ part → (InPart labels label way → ⊥) → KeepsPart labels label (take i ways) part → KeepsPart labels label (take (i + 1) ways) new
-  part_skip part new e out keeps = subst (KeepsPart labels label (take (i + 1) ways)) (sym e) (λ pick. (
-    (λ all. last_all (λ w. InPart labels label w → FitsWay pick w) ((keeps pick).0 all) (λ inside. absurd (out inside))),
-    (λ all. (keeps pick).1 (first_all (λ w. InPart labels label w → FitsWay pick w) all).0),
-  ))
+  pub copies_skip : (part new : List Way) → new ≡ part → (InPart labels label way → ⊥) → AreCopies labels label (take i ways) part → AreCopies labels label (take (i + 1) ways) new
+  copies_skip part new e out are = subst (AreCopies labels label (take (i + 1) ways)) (sym e) (record {
+    all = last_all (λ w. InPart labels label w → Any (IsCopy w) part) are.all (λ inside. absurd (out inside));
+    only = λ k d l. passed_any (λ w. IsCopy w (get_or part k d)) (are.only k d l);
+  })
+
+-- what fits over the copies fits over the ways between the places
+pub keeps_of : (labels : List ℕ) (label : ℕ) (ways part : List Way) → AreCopies labels label ways part → All (InPart labels label) part → KeepsPart labels label ways part
+keeps_of labels label ways part are inside pick = (
+  λ all k d lt in_part.
+      (let c = are.all k d lt in_part in
+      (same_fit pick (get_or ways k d) c.1 c.4.0 c.4.1 c.4.2).0 (subst (FitsWay pick) c.3 (all c.0 c.1 c.2))),
+  λ all k d lt.
+      (let w = are.only k d lt in
+      let copy = get_or part k d in
+      let in_way : InPart labels label w.1 = (ap (λ (n : ℕ). get_or labels n 0) (sym w.4.0) ∙ (inside k d lt).0, ap (λ (n : ℕ). get_or labels n 0) (sym w.4.1) ∙ (inside k d lt).1) in
+      (same_fit pick w.1 copy w.4.0 w.4.1 w.4.2).1 (subst (λ (x : Way). InPart labels label x → FitsWay pick x) w.3 (all w.0 w.1 w.2) in_way)),
+)
 
 -- ---- the picks of a label
 
@@ -298,9 +310,9 @@ module _ (ways : List Way) (sets labels : List ℕ) (label : ℕ) (size : length
   masked_at (l ∷ ls) (v ∷ vs) zero lt e = refl
   masked_at (l ∷ ls) (v ∷ vs) (suc i) lt e = masked_at ls vs i (omega (arith, lt)) (omega (arith, e))
 
-  module _ (pick : List ℕ) (is : IsIn sets pick) where
+  module _ (pick : List ℕ) (whole : length pick ≡ length sets) (low : (i : ℕ) → get_or pick i 0 < 64) (has : (i : ℕ) → i < length labels → get_or labels i 0 ≡ label → Has (get_or sets i 0) (get_or pick i 0)) where
     psize : length pick ≡ length labels
-    psize = is.size ∙ sym size
+    psize = whole ∙ sym size
 
     m_in : (i : ℕ) → i < length labels → get_or labels i 0 ≡ label → get_or (masked labels pick) i 0 ≡ get_or pick i 0
     m_in i lt e = masked_at labels pick i lt psize ∙ ap (λ (b : Bool). cond b (get_or pick i 0) 0) (eq-eqb (get_or labels i 0) label e)
@@ -311,7 +323,7 @@ module _ (ways : List Way) (sets labels : List ℕ) (label : ℕ) (size : length
     m_low : (i : ℕ) → get_or (masked labels pick) i 0 < 64
     m_low i = elim (cases_lt i (length labels)) [
       | inl lt ↦ elim (label_or i) [
-        | inl e ↦ (let s = m_in i lt e in let l = is.low i in omega (arith, s, l))
+        | inl e ↦ (let s = m_in i lt e in let l = low i in omega (arith, s, l))
         | inr not ↦ (let z = m_out i lt not in omega (arith, z))
       ]
       | inr past ↦ (let z = get_or_past (masked labels pick) i 0 (omega (arith, past, masked_size labels pick)) in omega (arith, z))
@@ -321,7 +333,7 @@ module _ (ways : List Way) (sets labels : List ℕ) (label : ℕ) (size : length
     m_has i lt = elim (label_or i) [
       | inl e ↦
           subst (λ (s : ℕ). Has s (get_or (masked labels pick) i 0)) (sym (set_in i (omega (arith, lt, size)) e))
-          (subst (Has (get_or sets i 0)) (sym (m_in i lt e)) (is.each i (omega (arith, lt, size))))
+          (subst (Has (get_or sets i 0)) (sym (m_in i lt e)) (has i lt e))
       | inr not ↦
           subst (λ (s : ℕ). Has s (get_or (masked labels pick) i 0)) (sym (set_out i (omega (arith, lt, size)) not))
           (subst (Has 1) (sym (m_out i lt not)) refl)
@@ -348,12 +360,16 @@ module _ (ways : List Way) (sets labels : List ℕ) (label : ℕ) (size : length
         get_or_default (at_places (masked labels pick) places) k d 0 lt ∙ at_index (masked labels pick) k klt ∙ m_in (get_or places k 0) p.0 p.1 ∙ sym (at_index pick k klt)
         ∙ get_or_default (at_places pick places) k 0 d (omega (arith, klt, b))))
 
+  has_in : (pick : List ℕ) → IsIn sets pick → (i : ℕ) → i < length labels → get_or labels i 0 ≡ label → Has (get_or sets i 0) (get_or pick i 0)
+  has_in pick is i lt e = is.each i (omega (arith, lt, size))
+
   -- what picks of the part have at its places is what picks have there
   pub part_sees : (seen : List ℕ) → SeesAll part_ways part_sets places seen → SeesAll ways sets places seen
   part_sees seen sees place c pick s =
       let here = (exact place).0 c in
-      subst (Has (get_or seen place 0)) (m_in pick s.inside place here.0 here.1)
-      (sees place c (masked labels pick) (m_solves pick s.inside (λ k d lt inside. s.fits k d lt)))
+      let has = has_in pick s.inside in
+      subst (Has (get_or seen place 0)) (m_in pick s.inside.size s.inside.low has place here.0 here.1)
+      (sees place c (masked labels pick) (m_solves pick s.inside.size s.inside.low has (λ k d lt inside. s.fits k d lt)))
 
   -- picks that solve and have the same values at the places are the same
   solved_once : (a b : List ℕ) → Solves part_ways part_sets a → Solves part_ways part_sets b → at_places a places ≡ at_places b places → a ≡ b
@@ -412,6 +428,16 @@ module _ (ways : List Way) (sets labels : List ℕ) (label : ℕ) (size : length
   part_refused seats most refusals.Memory r = tt
 
   module _ (found : List (List ℕ)) (all : AreAll part_ways part_sets found) where
+    found_at : (pick : List ℕ) → length pick ≡ length sets → ((i : ℕ) → get_or pick i 0 < 64) → ((i : ℕ) → i < length labels → get_or labels i 0 ≡ label → Has (get_or sets i 0) (get_or pick i 0))
+        → All (λ way. InPart labels label way → FitsWay pick way) ways → Contains (map (λ (f : List ℕ). at_places f places) found) (at_places pick places)
+    found_at pick whole low has fits =
+        let c = all.covered (masked labels pick) (m_solves pick whole low has fits) in
+        let is_at : get_or found c.0 [] ≡ masked labels pick = get_or_default found c.0 [] (masked labels pick) c.1 ∙ c.2 in (
+          c.0,
+          (let s = length-map found (λ (f : List ℕ). at_places f places) in omega (arith, s, c.1)),
+          get_or-map (λ (g : List ℕ). at_places g places) found c.0 [] (at_places pick places) c.1 ∙ ap (λ (g : List ℕ). at_places g places) is_at ∙ m_same pick whole low has,
+        )
+
     part_exact : (pick : List ℕ) (is : IsIn sets pick) → (Contains (map (λ (f : List ℕ). at_places f places) found) (at_places pick places) ↔ All (λ way. InPart labels label way → FitsWay pick way) ways)
     part_exact pick is = (
       λ c.
@@ -421,14 +447,14 @@ module _ (ways : List Way) (sets labels : List ℕ) (label : ℕ) (size : length
           let s = all.listed f (Contains-get_or found c.0 [] lt) in
           let fits = (keeps f).0 s.fits in
           λ k d klt inside. same_fits f pick (same_at_label f pick e) (get_or ways k d) (within k d klt) inside (fits k d klt inside)),
-      λ fits.
-          (let c = all.covered (masked labels pick) (m_solves pick is fits) in
-          let is_at : get_or found c.0 [] ≡ masked labels pick = get_or_default found c.0 [] (masked labels pick) c.1 ∙ c.2 in (
-            c.0,
-            (let s = length-map found (λ (f : List ℕ). at_places f places) in omega (arith, s, c.1)),
-            get_or-map (λ (g : List ℕ). at_places g places) found c.0 [] (at_places pick places) c.1 ∙ ap (λ (g : List ℕ). at_places g places) is_at ∙ m_same pick is,
-          )),
+      λ fits. found_at pick is.size is.low (has_in pick is) fits,
     )
+
+    -- a pick that fits between the places is found there
+    part_whole : (pick : List ℕ) → ((i : ℕ) → get_or pick i 0 < 64) → FitsBetween ways sets places pick → Contains (map (λ (f : List ℕ). at_places f places) found) (at_places pick places)
+    part_whole pick low f = found_at pick f.size low (λ i lt e. f.each i ((exact i).1 (lt, e))) (λ k d lt inside.
+        (let w = within k d lt in
+        f.fits k d lt ((exact (get_or ways k d).from).1 (w.from, inside.0)) ((exact (get_or ways k d).to).1 (w.to, inside.1))))
 
     part_pick : (f : List ℕ) → Contains found f → IsPickOf sets places (at_places f places)
     part_pick f c = record {
@@ -467,6 +493,15 @@ module _ (ways : List Way) (sets labels : List ℕ) (label : ℕ) (size : length
             all.distinct i j [] lt jlt (solved_once (get_or found i []) (get_or found j []) (all.listed (get_or found i []) (Contains-get_or found i [] ilt)) (all.listed (get_or found j []) (Contains-get_or found j [] jlt)) same)));
       };
       places = λ place. subst (λ (ps : List ℕ). Contains ps place ↔ (place < length labels) × (get_or labels place 0 ≡ label)) (sym pe) (exact place);
+      own = record {
+        fit = subst (λ (ps : List ℕ). All (λ own. (pick : List ℕ) × FitsBetween ways sets ps pick × (own ≡ at_places pick ps)) group.picks) (sym pe)
+            (subst (All (λ own. (pick : List ℕ) × FitsBetween ways sets places pick × (own ≡ at_places pick places))) (sym fe) (λ j d lt.
+            (let jlt : j < length found = (let s = length-map found (λ (f : List ℕ). at_places f places) in omega (arith, s, lt)) in
+            let f = get_or found j [] in
+            (f, part_fits f (all.listed f (Contains-get_or found j [] jlt)), get_or-map (λ (g : List ℕ). at_places g places) found j [] d jlt))));
+        whole = λ pick low. subst (λ (ps : List ℕ). FitsBetween ways sets ps pick → Contains group.picks (at_places pick ps)) (sym pe)
+            (subst (λ (fs : List (List ℕ)). FitsBetween ways sets places pick → Contains fs (at_places pick places)) (sym fe) (part_whole pick low));
+      };
       exact = λ pick is. subst (λ (ps : List ℕ). Contains group.picks (at_places pick ps) ↔ All (λ way. InPart labels label way → FitsWay pick way) ways) (sym pe)
           (subst (λ (fs : List (List ℕ)). Contains fs (at_places pick places) ↔ All (λ way. InPart labels label way → FitsWay pick way) ways) (sym fe) (part_exact pick is));
     }
@@ -491,7 +526,7 @@ module _ (sets labels : List ℕ) (ways : List Way) (n : ℕ) (groups : List Gro
         (λ k d lt. (let x = are.each k d lt in (x.0, omega (arith, x.1), x.2))) (n, omega arith, is);
     all = λ place lt under. elim (cases_order (get_or labels place 0) n) [
       | inl same ↦ Any-push (λ (g : Group). Contains g.places place) groups group ((is.places place).1 (lt, same))
-      | inr differ ↦ any_more place (are.all place lt (elim differ [ inl l ↦ l | inr m ↦ absurd (omega (arith, under, m)) ]))
+      | inr differ ↦ any_more (λ (g : Group). Contains g.places place) groups group (are.all place lt (elim differ [ inl l ↦ l | inr m ↦ absurd (omega (arith, under, m)) ]))
     ];
     some = All-push (λ (g : Group). 0 < length g.places) groups group are.some is.group.some;
     order = all_pairs_push (λ (a b : Group). (place behind : ℕ) → Contains a.places place → Contains b.places behind → get_or labels place 0 < get_or labels behind 0) groups group are.order (λ k d lt place behind one other.
@@ -500,11 +535,6 @@ module _ (sets labels : List ℕ) (ways : List Way) (n : ℕ) (groups : List Gro
         let b = (is.places behind).0 other in
         omega (arith, x.1, a.1, b.1)));
   })
-    where
-      any_more : (place : ℕ) → Any (λ (g : Group). Contains g.places place) groups → Any (λ (g : Group). Contains g.places place) (groups ++ group ∷ [])
-      any_more place h =
-          let size = length-append groups (group ∷ []) in
-          (h.0, h.1, omega (arith, size, h.2), get_or_append_left groups (group ∷ []) h.1 h.0 h.2 ∙ h.3, h.4)
 
 pub grouped_all : (sets labels : List ℕ) (ways : List Way) (n : ℕ) (groups : List Group) → AreWithin (length sets) ways → AreLabels sets ways labels → length sets ≤ n → AreGrouped sets labels ways n groups → AreGroups ways sets groups
 grouped_all sets labels ways n groups within of le are = record {
@@ -515,6 +545,7 @@ grouped_all sets labels ways n groups within of le are = record {
         record { inside = is; fits = λ j e jlt. fits_at pick low is chosen j e jlt (of.joined j e jlt) })),
   );
   each = λ k d lt. (are.each k d lt).2.group;
+  own = λ k d lt. (are.each k d lt).2.own;
   places = λ place lt. group_of place lt;
   apart = λ i j d lt inside place one other. (let up = are.order i j d lt inside place place one other in omega (arith, up));
   order = λ i j d lt inside.
@@ -605,31 +636,6 @@ group_before ways old new group narrows g = record {
   picks = λ i e ilt. (let x = g.picks i e ilt in record { size = x.size; low = x.low; each = λ m mlt. narrows.fewer _ _ (x.each m mlt) });
   once = g.once;
 }
-
--- the groups of sets that a narrowing left are those of the sets before
-pub groups_before : (ways : List Way) (old new : List ℕ) (groups : List Group) → Narrows ways old new → AreGroups ways new groups → AreGroups ways old groups
-groups_before ways old new groups narrows are = record {
-  exact = λ pick size low. (
-    (λ s. (are.exact pick (size ∙ sym narrows.size) low).0 (record { inside = narrows.keeps pick s; fits = s.fits })),
-    (λ chosen. (let s = (are.exact pick (size ∙ sym narrows.size) low).1 chosen in record { inside = in_before ways old new pick narrows s.inside; fits = s.fits })),
-  );
-  each = λ k d lt. (let g = are.each k d lt in record {
-    inside = λ i e ilt. (let x = g.inside i e ilt in omega (arith, x, narrows.size));
-    some = g.some;
-    rising = g.rising;
-    picks = λ i e ilt. (let x = g.picks i e ilt in record { size = x.size; low = x.low; each = λ m mlt. narrows.fewer _ _ (x.each m mlt) });
-    once = g.once;
-  });
-  places = λ place lt. are.places place (omega (arith, lt, narrows.size));
-  apart = are.apart;
-  order = are.order;
-  alone = λ place lt all. are.alone place (omega (arith, lt, narrows.size)) all;
-}
-
--- what is found of sets that a narrowing left is found of the sets before
-pub found_before : {Z : Type 0} (seats : List Seat) (ways : List Way) (old new : List ℕ) (most : ℕ) (r : Result (Vec Group Z) SearchError) → Narrows ways old new → FindsGroups seats ways new most r → FindsGroups seats ways old most r
-found_before seats ways old new most (Ok groups) narrows found = (groups_before ways old new groups.items narrows found.0, found.1)
-found_before seats ways old new most (Err why) narrows found = refused_before seats ways old new most why narrows found
 
 pub within_copy : (n : ℕ) (way copy : Way) → copy.from ≡ way.from → copy.to ≡ way.to → copy.fits.items ≡ way.fits.items → IsWithin n way → IsWithin n copy
 within_copy n way copy a b f is = record { from = omega (arith, a, is.from); to = omega (arith, b, is.to); few = (let s = ap length f in omega (arith, s, is.few)) }

@@ -24,23 +24,46 @@ use Rattle.stable_search.proofs.RelateLemmas.{same_seat}
 
 -- ---- a pick as an assignment
 
+-- of the router of a seat, what the seat and the number at its place give
+pub by_seat : {X : Type 0} → (Seat → ℕ → X) → X → List Seat → List ℕ → ℕ → X
+by_seat gives none [] ns u = none
+by_seat gives none (s ∷ ss) [] u = none
+by_seat gives none (s ∷ ss) (n ∷ ns) u = cond (s.router == u) (gives s n) (by_seat gives none ss ns u)
+
+pub by_seat_is : {X : Type 0} (gives : Seat → ℕ → X) (none : X) (seats : List Seat) (ns : List ℕ) (i : ℕ) (s : Seat)
+    → ((a b : ℕ) (x y : Seat) → StandsAt seats a x → StandsAt seats b y → x.router ≡ y.router → a ≡ b) → StandsAt seats i s → length ns ≡ length seats → by_seat gives none seats ns s.router ≡ gives s (get_or ns i 0)
+unfolding by_seat
+by_seat_is gives none [] ns i s once st size = absurd (omega (arith, st.0))
+by_seat_is gives none (t ∷ ts) [] i s once st size = absurd (omega (arith, size))
+by_seat_is gives none (t ∷ ts) (n ∷ ns) zero s once st size =
+    ap (λ (b : Bool). cond b (gives t n) (by_seat gives none ts ns s.router)) (eq-eqb t.router s.router (ap (λ (r : Seat). r.router) st.1)) ∙ ap (λ (r : Seat). gives r n) st.1
+by_seat_is gives none (t ∷ ts) (n ∷ ns) (suc i) s once st size =
+    let differ : t.router ≢ s.router = λ e. (let z : 0 ≡ suc i = once 0 (suc i) t s (omega arith, refl) st e in absurd (omega (arith, z))) in
+    ap (λ (b : Bool). cond b (gives t n) (by_seat gives none ts ns s.router)) (ne_eqb t.router s.router differ)
+    ∙ by_seat_is gives none ts ns i s (λ a b x y xa yb e. (let same : suc a ≡ suc b = once (suc a) (suc b) x y (omega (arith, xa.0), xa.1) (omega (arith, yb.0), yb.1) e in omega (arith, same))) (omega (arith, st.0), st.1) (omega (arith, size))
+
 -- the path that a pick gives a router
-pub value_at : List Seat → List ℕ → ℕ → List ℕ
-value_at [] pick u = []
-value_at (s ∷ ss) [] u = []
-value_at (s ∷ ss) (v ∷ vs) u = cond (s.router == u) (get_or s.values.items v []) (value_at ss vs u)
+abbrev pub value_at : List Seat → List ℕ → ℕ → List ℕ
+value_at seats pick u = by_seat (λ s v. get_or s.values.items v []) [] seats pick u
 
 pub value_is : (seats : List Seat) (pick : List ℕ) (i : ℕ) (s : Seat) → ((a b : ℕ) (x y : Seat) → StandsAt seats a x → StandsAt seats b y → x.router ≡ y.router → a ≡ b) → StandsAt seats i s → length pick ≡ length seats
     → value_at seats pick s.router ≡ get_or s.values.items (get_or pick i 0) []
-unfolding value_at
-value_is [] pick i s once st size = absurd (omega (arith, st.0))
-value_is (t ∷ ts) [] i s once st size = absurd (omega (arith, size))
-value_is (t ∷ ts) (v ∷ vs) zero s once st size =
-    ap (λ (b : Bool). cond b (get_or t.values.items v []) (value_at ts vs s.router)) (eq-eqb t.router s.router (ap (λ (r : Seat). r.router) st.1)) ∙ ap (λ (r : Seat). get_or r.values.items v []) st.1
-value_is (t ∷ ts) (v ∷ vs) (suc i) s once st size =
-    let differ : t.router ≢ s.router = λ e. (let z : 0 ≡ suc i = once 0 (suc i) t s (omega arith, refl) st e in absurd (omega (arith, z))) in
-    ap (λ (b : Bool). cond b (get_or t.values.items v []) (value_at ts vs s.router)) (ne_eqb t.router s.router differ)
-    ∙ value_is ts vs i s (λ a b x y xa yb e. (let same : suc a ≡ suc b = once (suc a) (suc b) x y (omega (arith, xa.0), xa.1) (omega (arith, yb.0), yb.1) e in omega (arith, same))) (omega (arith, st.0), st.1) (omega (arith, size))
+value_is seats pick i s once st size = by_seat_is (λ s v. get_or s.values.items v []) [] seats pick i s once st size
+
+-- what fits together of one assignment does of another that has the same paths at the routers
+pub together_same : (p : Problem) (routers : List ℕ) (one other : ℕ → List ℕ) → ((u : ℕ) → Contains routers u → one u ≡ other u) → FitTogether p routers one → FitTogether p routers other
+together_same p routers one other same fit u c =
+    let f = fit u c in
+    let mine : one f.0.router ≡ other f.0.router = same f.0.router (subst (Contains routers) (sym f.1.0) c) in (
+      f.0,
+      f.1,
+      record {
+        may = subst (MayStand p.net.links p.prefix f.0) mine f.2.may;
+        fits = λ v cv linked not.
+            subst (λ (path : List ℕ). FitsAt f.0 p.prefix v path (other v)) mine
+            (subst (FitsAt f.0 p.prefix v (one f.0.router)) (same v cv) (f.2.fits v cv linked not));
+      },
+    )
 
 module _ (p : Problem) (is : IsInstance p) (law : StableIsFitting) (seats : List Seat) (at : map (λ (s : Seat). s.router) seats ≡ numbers p.net.routers) (each : All (IsSeat p) seats)
     (ways : List Way) (over : AreWaysOf p.net.links seats ways) (sets : List ℕ) (values : AreValues seats sets) where
@@ -56,7 +79,7 @@ module _ (p : Problem) (is : IsInstance p) (law : StableIsFitting) (seats : List
         let i = get_or places c.0 0 in
         (i, s.0, (c.0, klt, get_or_default places c.0 i 0 klt), s.1, sym (of.each c.0 s.0 klt s.1) ∙ get_or_default routers c.0 0 u c.1 ∙ c.2)
 
-    some_routers : AreSomeRouters p routers
+    pub some_routers : AreSomeRouters p routers
     some_routers = record {
       some = (let some = are.some in omega (arith, some, of.size));
       rising = λ a b d lt inside.
@@ -79,7 +102,7 @@ module _ (p : Problem) (is : IsInstance p) (law : StableIsFitting) (seats : List
       inside_at : (i : ℕ) (s : Seat) → Contains places i → StandsAt seats i s → get_or pick i 0 < length s.values.items
       inside_at i s c st = (values.1 i (get_or pick i 0) s st).0 (fit.each i c)
 
-      path_is : (i : ℕ) (s : Seat) → StandsAt seats i s → value_at seats pick s.router ≡ get_or s.values.items (get_or pick i 0) []
+      pub path_is : (i : ℕ) (s : Seat) → StandsAt seats i s → value_at seats pick s.router ≡ get_or s.values.items (get_or pick i 0) []
       path_is i s st = value_is seats pick i s (routers_once p is seats at) st (fit.size ∙ values.0)
 
       has_path : (i : ℕ) (s : Seat) → Contains places i → StandsAt seats i s → Contains s.values.items (value_at seats pick s.router)
@@ -107,7 +130,7 @@ module _ (p : Problem) (is : IsInstance p) (law : StableIsFitting) (seats : List
           (subst (λ (r : Seat). FitsBoth r w.other (value_at seats pick r.router) (value_at seats pick w.other.router)) one paths_fit)
 
       -- what a pick gives the routers fits
-      together : FitTogether p routers (value_at seats pick)
+      pub together : FitTogether p routers (value_at seats pick)
       together u c =
           let r = seat_in u c in
           let s = r.1 in

@@ -102,6 +102,7 @@ one_list p it path values e may always = record {
   may = λ other c. subst (MayChoose p.net.links it) (sym ((one_path path other).0 (subst (λ (xs : List (List ℕ)). Contains xs other) e c))) may;
   has = λ paths stable. subst (λ (xs : List (List ℕ)). Contains xs (paths it.router)) (sym e) ((one_path path (paths it.router)).1 (always paths stable));
   distinct = subst (AllPairs (λ a b. a ≢ b)) (sym e) (one_pairs path);
+  some = (let size = ap length e in omega (arith, size));
   few = (let size = ap length e in omega (arith, size));
 }
 
@@ -123,6 +124,7 @@ module _ (law : EachPolicyIsAnOrder) (p : Problem) (is : IsInstance p) (it : Cho
       | inr other ↦ elim other.1 [ inl none ↦ inr (sym none) | inr may ↦ inl may ]
     ]);
     distinct = by.distinct;
+    some = (let c = (by.exact []).1 (inr refl) in omega (arith, c.1));
     few = by.few;
   }
 
@@ -148,6 +150,7 @@ module _ (law : EachPolicyIsAnOrder) (p : Problem) (is : IsInstance p) (it : Cho
     may = λ path c. inr ((λ o. not (x.origin.1 o)), inl ((one_path [] path).0 (subst (λ (xs : List (List ℕ)). Contains xs path) e c)));
     has = λ paths stable low. subst (λ (xs : List (List ℕ)). Contains xs (paths it.router)) (sym e) ((one_path [] (paths it.router)).1 (none_of_one not paths stable (low refl)));
     distinct = subst (AllPairs (λ a b. a ≢ b)) (sym e) (one_pairs []);
+    some = (let size = ap length e in omega (arith, size));
     few = (let size = ap length e in omega (arith, size));
   }
 
@@ -176,6 +179,7 @@ whole_seat p it x vec values = record {
   may = λ path c. stands_by p it x path (values.may path c);
   has = λ paths stable low. values.has paths stable;
   distinct = values.distinct;
+  some = values.some;
   few = values.few;
 }
 

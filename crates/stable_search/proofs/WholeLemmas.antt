@@ -15,9 +15,10 @@ use Rattle.stable_search.specs.Fits.{IsFitting, StableIsFitting}
 use Rattle.stable_search.specs.Following.{IsUp}
 use Rattle.stable_search.specs.Groups.{at_places, IsGroup, AreGroups, AreValues, IsLed, IsPartOf, ArePartsOf}
 use Rattle.stable_search.specs.Led.{IsOpen, AreLed}
-use Rattle.stable_search.specs.Picks.{FitsWay, IsIn, Solves, Narrows}
+use Rattle.stable_search.specs.Picks.{AllSome, FitsWay, IsIn, Solves, Narrows}
 use Rattle.stable_search.specs.Seats.{IsSeat, StandsAt, AreWaysOf}
-use Rattle.stable_search.proofs.CombineLemmas.{AreApart, filled, map_same}
+use Rattle.stable_search.proofs.AmongLemmas.{among}
+use Rattle.stable_search.proofs.CombineLemmas.{AreApart, filled, map_same, same_in}
 use Rattle.stable_search.proofs.EveryLemmas.{Picked, picked, one_value, router_at, is_router, has_paths, low, solves, fitting_by, routers_once, routers_rise, part_has, part_picks, picks_part, is_part, router_in, in_router}
 use Rattle.stable_search.proofs.FollowLemmas.{AreEnds, all_extended, same_everywhere}
 use Rattle.stable_search.proofs.NarrowLemmas.{in_before, narrows_then}
@@ -31,12 +32,6 @@ one_of_few xs a b few c d =
     let i : c.0 ≡ 0 = (let lt = c.1 in omega (arith, lt, few)) in
     let j : d.0 ≡ 0 = (let lt = d.1 in omega (arith, lt, few)) in
     sym c.2 ∙ get_or_default xs c.0 a b c.1 ∙ ap (λ (n : ℕ). get_or xs n b) (i ∙ sym j) ∙ d.2
-
--- a function is the same at routers of a list
-same_in : (f g : ℕ → List ℕ) (us : List ℕ) (u : ℕ) → map f us ≡ map g us → Contains us u → f u ≡ g u
-same_in f g [] u e c = absurd (omega (arith, c.1))
-same_in f g (v ∷ us) u e (zero, lt, c) = let first : f v ≡ g v = cc e in subst (λ (w : ℕ). f w ≡ g w) c first
-same_in f g (v ∷ us) u e (suc i, lt, c) = let rest : map f us ≡ map g us = cc e in same_in f g us u rest (i, omega (arith, lt), c)
 
 module _ (p : Problem) (is : IsInstance p) (law : StableIsFitting) (seats : List Seat) (at : map (λ (s : Seat). s.router) seats ≡ numbers p.net.routers) (each : All (IsSeat p) seats)
     (ways : List Way) (over : AreWaysOf p.net.links seats ways) (sets : List ℕ) (values : AreValues seats sets) (now : List ℕ)
@@ -272,8 +267,8 @@ module _ (p : Problem) (is : IsInstance p) (law : StableIsFitting) (seats : List
         λ e. open_is.1 (sym of_part.count ∙ e),
       )
 
-  pub every : IsEveryStable p found
-  every = record {
+  pub every : AllSome now → IsEveryStable p found
+  every alive = record {
     listed = has_each;
     whole = λ paths have. (stable_paths paths have, is_stable paths have, agree paths have);
     decided = same_paths;
@@ -307,4 +302,5 @@ module _ (p : Problem) (is : IsInstance p) (law : StableIsFitting) (seats : List
         let o = led.needed (any.0, group.0, group.1.0, group.1.1, l) in
         let part = part_at o.0 o.2 in
         (o.0, part.0, part.1.0, part.1.1, open_part o.0 o.1 part.0 (o.2, o.3) part.1 o.4));
+    among = among p is law seats at each ways over sets values now narrows levels groups led found.parts of alive;
   }

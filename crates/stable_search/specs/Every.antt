@@ -5,6 +5,7 @@ use Rattle.ranked_policy.specs.Plans.{IsRouter}
 use Rattle.stable_paths.specs.Stable.{Problem, IsStable}
 use Rattle.stable_search.specs.declared.every.Component.{Component}
 use Rattle.stable_search.specs.declared.every.Every.{Every}
+use Rattle.stable_search.specs.Refusals.{FitTogether}
 
 -- the routers of the part have one of its choices
 abbrev pub HasChoice : (ℕ → List ℕ) → Component → Type 0
@@ -26,6 +27,20 @@ HaveChoices paths parts = All (λ part. part.follows ≡ false → HasChoice pat
 abbrev pub Agree : (ℕ → List ℕ) → (ℕ → List ℕ) → List Component → Type 0
 Agree paths others parts = All (λ part. part.follows ≡ false → map paths part.routers ≡ map others part.routers) parts
 
+-- the choices of the part are the paths, out of these of each router, that fit together
+abbrev pub AreChoices : Problem → (ℕ → List (List ℕ)) → Component → Type 0
+AreChoices p may part =
+    (paths : ℕ → List ℕ) → (HasChoice paths part
+    ↔ ((u : ℕ) → Contains part.routers u → Contains (may u) (paths u)) × FitTogether p part.routers paths)
+
+-- of each router some paths, at least one, among which is its path in each stable assignment: the choices of each part
+-- are those of them that fit together
+pub record ChooseAmong (p : Problem) (parts : List Component) : Type 0 where
+  pub may : ℕ → List (List ℕ)
+  pub some : (u : ℕ) → IsRouter p.net.routers u → 0 < length (may u)
+  pub has : (paths : ℕ → List ℕ) → IsStable p paths → (u : ℕ) → IsRouter p.net.routers u → Contains (may u) (paths u)
+  pub choices : All (AreChoices p may) parts
+
 -- a stable assignment has one of the choices of each part, and any choices of the parts that don't follow are had in
 -- exactly one; each router is in one part; parts stand by their least routers
 pub record IsEveryStable (p : Problem) (every : Every) : Type 0 where
@@ -41,6 +56,8 @@ pub record IsEveryStable (p : Problem) (every : Every) : Type 0 where
   -- a part follows only where one that doesn't has no choice or several
   pub needed : Any (λ part. part.follows ≡ true) every.parts
       → Any (λ part. (part.follows ≡ false) × (length part.choices ≢ 1)) every.parts
+  -- where none is stable too
+  pub among : ChooseAmong p every.parts
 
 -- the number of choices of a part; 1 if it follows
 abbrev pub factor_of : Component → ℕ

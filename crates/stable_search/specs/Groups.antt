@@ -10,7 +10,7 @@ use Rattle.stable_search.specs.declared.seat.Seat.{Seat}
 use Rattle.stable_search.specs.declared.stop.Stop.{Stop}
 use Rattle.stable_search.specs.declared.stop.Stop.TheVariants as stops
 use Rattle.stable_search.specs.declared.way.Way.{Way}
-use Rattle.stable_search.specs.Picks.{Has, FitsWay, IsFull, Narrows, Solves}
+use Rattle.stable_search.specs.Picks.{Has, FitsWay, IsFull, Solves}
 use Rattle.stable_search.specs.Seats.{StandsAt}
 
 -- the values that a pick has at these places
@@ -36,6 +36,18 @@ pub record IsGroup (sets : List ℕ) (group : Group) : Type 0 where
   pub picks : All (IsPickOf sets group.places) group.picks
   pub once : AllPairs (λ pick later. pick ≢ later) group.picks
 
+-- a value for each of these places, out of its set; the values of two of them fit over each way between them
+pub record FitsBetween (ways : List Way) (sets places pick : List ℕ) : Type 0 where
+  pub size : length pick ≡ length sets
+  pub each : (place : ℕ) → Contains places place → Has (slice_index sets place) (slice_index pick place)
+  pub fits : All (λ way. Contains places way.from → Contains places way.to → FitsWay pick way) ways
+
+-- the picks of a group are what fits between its places
+pub record AreOwn (ways : List Way) (sets : List ℕ) (group : Group) : Type 0 where
+  pub fit : All (λ own. (pick : List ℕ) × FitsBetween ways sets group.places pick × (own ≡ at_places pick group.places)) group.picks
+  pub whole : (pick : List ℕ) → ((i : ℕ) → slice_index pick i < 64) → FitsBetween ways sets group.places pick
+      → Contains group.picks (at_places pick group.places)
+
 -- each pick that solves has, at these places, the values of one of these picks
 abbrev pub AreCovered : List Way → List ℕ → List ℕ → List (List ℕ) → Type 0
 AreCovered ways sets places picks = (pick : List ℕ) → Solves ways sets pick → Contains picks (at_places pick places)
@@ -50,6 +62,7 @@ pub record AreGroups (ways : List Way) (sets : List ℕ) (groups : List Group) :
   pub exact : (pick : List ℕ) → length pick ≡ length sets → ((i : ℕ) → slice_index pick i < 64)
       → (Solves ways sets pick ↔ All (λ group. Contains group.picks (at_places pick group.places)) groups)
   pub each : All (IsGroup sets) groups
+  pub own : All (AreOwn ways sets) groups
   pub places : (place : ℕ) → place < length sets → Any (λ group. Contains group.places place) groups
   pub apart : AllPairs (λ group later. (place : ℕ) → Contains group.places place → Contains later.places place
       → ⊥) groups
@@ -114,12 +127,6 @@ pub record ArePlaces (sets places : List ℕ) : Type 0 where
   pub some : 0 < length places
   pub rising : AllPairs (λ place later. place < later) places
 
--- a value for each of these places, out of its set; the values of two of them fit over each way between them
-pub record FitsBetween (ways : List Way) (sets places pick : List ℕ) : Type 0 where
-  pub size : length pick ≡ length sets
-  pub each : (place : ℕ) → Contains places place → Has (slice_index sets place) (slice_index pick place)
-  pub fits : All (λ way. Contains places way.from → Contains places way.to → FitsWay pick way) ways
-
 -- more picks than so many, which differ at these places
 pub record HasMorePicks (ways : List Way) (sets places : List ℕ) (most : ℕ) : Type 0 where
   pub picks : List (List ℕ)
@@ -139,10 +146,6 @@ RefusesPlaces seats ways sets most refusals.Memory = ⊤
 -- groups, none with more picks than so many
 abbrev pub HaveGroups : List Way → List ℕ → ℕ → List Group → Type 0
 HaveGroups ways sets most groups = AreGroups ways sets groups × All (λ group. length group.picks ≤ most) groups
-
--- those of sets that are narrowed
-abbrev pub FoundGroups : List Way → List ℕ → ℕ → List Group → Type 0
-FoundGroups ways sets most groups = (now : List ℕ) × Narrows ways sets now × HaveGroups ways now most groups
 
 -- the groups that a search finds, none with more picks than so many; or its refusal
 abbrev pub FindsGroups : {Z : Type 0} → List Seat → List Way → List ℕ → ℕ → Result (Vec Group Z) SearchError → Type 0

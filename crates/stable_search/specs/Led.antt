@@ -8,8 +8,8 @@ use Rattle.stable_search.specs.declared.seat.Seat.{Seat}
 use Rattle.stable_search.specs.declared.way.Way.{Way}
 use Rattle.stable_search.specs.Following.{AreLevels}
 use Rattle.stable_search.specs.Groups.{AreGroups, IsLed, RefusesPlaces}
-use Rattle.stable_search.specs.Parting.{KeepsPart}
-use Rattle.stable_search.specs.Picks.{Narrows}
+use Rattle.stable_search.specs.Parting.{KeepsPart, AreCopies}
+use Rattle.stable_search.specs.Picks.{AllSome, Narrows}
 
 -- a group that isn't one, and has no pick, or several
 abbrev pub IsOpen : List ℕ → Group → Type 0
@@ -24,6 +24,7 @@ pub record AreLed (ways : List Way) (old now levels : List ℕ) (groups : List G
   pub levels_are : AreLevels ways wide levels
   pub core : List Way
   pub keeps : KeepsPart levels 0 ways core
+  pub copies : AreCopies levels 0 ways core
   pub fall : AreGroups core now groups
   pub alone : All (λ group. (place : ℕ) → Contains group.places place → 0 < slice_index levels place
       → length group.places ≡ 1) groups
@@ -34,7 +35,7 @@ abbrev pub HaveLed : List Way → List ℕ → List ℕ → List ℕ → ℕ →
 HaveLed ways old now levels most groups =
     AreLed ways old now levels groups × All (λ group. length group.picks ≤ most) groups
 
--- the groups that a search finds of sets that are narrowed; or its refusal
+-- the groups that a search finds of sets that are narrowed, but for their last values; or its refusal
 abbrev pub FindsLed : List Seat → List Way → List ℕ → ℕ → Result Grouping SearchError → Type 0
-FindsLed seats ways sets most (Ok it) = (now : List ℕ) × HaveLed ways sets now it.levels.items most it.groups.items
+FindsLed seats ways sets most (Ok it) = (now : List ℕ) × (AllSome sets → AllSome now) × HaveLed ways sets now it.levels.items most it.groups.items
 FindsLed seats ways sets most (Err why) = RefusesPlaces seats ways sets most why

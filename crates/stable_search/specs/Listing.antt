@@ -102,8 +102,8 @@ pub record IsExtended (old : Seat) (paths : List (List ℕ)) (new : Seat) : Type
 
 -- ---- rounds
 
--- a router with paths that it may have, each once: all that it has in a stable assignment; if they are found by rounds,
--- all of at most so many routers
+-- a router with paths that it may have, at least one, each once: all that it has in a stable assignment; if they are
+-- found by rounds, all of at most so many routers
 pub record IsListing (p : Problem) (most : ℕ) (seat : Seat) : Type 0 where
   pub table : Table
   pub of : IsTableOf p.net seat.router table
@@ -114,6 +114,7 @@ pub record IsListing (p : Problem) (most : ℕ) (seat : Seat) : Type 0 where
   pub has : (paths : ℕ → List ℕ) → IsStable p paths → (IsTrue seat.is_open → length (paths seat.router) ≤ most)
       → Contains seat.values.items (paths seat.router)
   pub distinct : AllPairs (λ path later. path ≢ later) seat.values.items
+  pub some : 0 < length seat.values.items
   pub few : length seat.values.items < 64
 
 -- the routers of the problem, each with all its paths of at most `most` routers; the first `done` of them have those of

@@ -5,7 +5,7 @@ use mathlib.Core.Logic.{◌⊎◌}
 use Rattle.stable_search.specs.declared.group.Group.{Group}
 use Rattle.stable_search.specs.declared.way.Way.{Way}
 use Rattle.stable_search.specs.Picks.{Has, IsIn, FitsWay}
-use Rattle.stable_search.specs.Groups.{at_places, IsAway, IsGroup}
+use Rattle.stable_search.specs.Groups.{at_places, IsAway, IsGroup, AreOwn}
 
 -- each value of one place of a way fits each value of the other
 abbrev pub IsFree : List ℕ → Way → Type 0
@@ -51,6 +51,15 @@ abbrev pub KeepsPart : List ℕ → ℕ → List Way → List Way → Type 0
 KeepsPart labels label ways part =
     (pick : List ℕ) → (All (FitsWay pick) part ↔ All (λ way. InPart labels label way → FitsWay pick way) ways)
 
+-- the same way
+abbrev pub IsCopy : Way → Way → Type 0
+IsCopy way copy = (copy.from ≡ way.from) × (copy.to ≡ way.to) × (copy.fits.items ≡ way.fits.items)
+
+-- the ways of the part are those between the part's places
+pub record AreCopies (labels : List ℕ) (label : ℕ) (ways part : List Way) : Type 0 where
+  pub all : All (λ way. InPart labels label way → Any (IsCopy way) part) ways
+  pub only : All (λ copy. Any (λ way. IsCopy way copy) ways) part
+
 -- the sets of the part's places; each other place has the value 0 alone
 pub record IsPartSets (sets labels : List ℕ) (label : ℕ) (part : List ℕ) : Type 0 where
   pub size : length part ≡ length sets
@@ -63,6 +72,7 @@ pub record IsPartGroup (sets labels : List ℕ) (label : ℕ) (ways : List Way) 
   pub places : (place : ℕ) → (Contains it.places place ↔ (place < length labels) × (slice_index labels place ≡ label))
   pub exact : (pick : List ℕ) → IsIn sets pick
       → (Contains it.picks (at_places pick it.places) ↔ All (λ way. InPart labels label way → FitsWay pick way) ways)
+  pub own : AreOwn ways sets it
 
 -- there is a group for each label below this bound that a place has
 pub record AreGrouped (sets labels : List ℕ) (ways : List Way) (labels_below : ℕ) (groups : List Group) : Type 0 where

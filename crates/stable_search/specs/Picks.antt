@@ -65,6 +65,10 @@ pub record Narrows (ways : List Way) (old new : List ℕ) : Type 0 where
   pub keeps : (pick : List ℕ) → Solves ways old pick → IsIn new pick
   pub fewer : (place value : ℕ) → Has (slice_index new place) value → Has (slice_index old place) value
 
+-- each set has a value
+abbrev pub AllSome : List ℕ → Type 0
+AllSome sets = (i : ℕ) → i < length sets → (value : ℕ) × Has (slice_index sets i) value
+
 -- no mark is lost
 abbrev pub MarksMore : List ℕ → List ℕ → Type 0
 MarksMore old new = (place value : ℕ) → Has (slice_index old place) value → Has (slice_index new place) value

@@ -17,7 +17,7 @@ use Rattle.stable_search.specs.declared.chooser.Chooser.{Chooser}
 use Rattle.stable_search.specs.declared.seat.Seat.{Seat}
 use Rattle.stable_search.specs.declared.way.Way.{Way}
 
--- a router with paths that it may have, each once: all that it has in any stable assignment are among them
+-- a router with paths that it may have, at least one, each once: all that it has in any stable assignment are among them
 pub record IsSeat (p : Problem) (seat : Seat) : Type 0 where
   pub table : Table
   pub of : IsTableOf p.net seat.router table
@@ -26,13 +26,15 @@ pub record IsSeat (p : Problem) (seat : Seat) : Type 0 where
   pub may : (path : List ℕ) → Contains seat.values.items path → MayStand p.net.links p.prefix table path
   pub has : (paths : ℕ → List ℕ) → IsStable p paths → Contains seat.values.items (paths seat.router)
   pub distinct : AllPairs (λ path later. path ≢ later) seat.values.items
+  pub some : 0 < length seat.values.items
   pub few : length seat.values.items < 64
 
--- paths that a router may have, each once: all that it has in any stable assignment are among them
+-- paths that a router may have, at least one, each once: all that it has in any stable assignment are among them
 pub record AreValuesOf (p : Problem) (it : Chooser) (values : List (List ℕ)) : Type 0 where
   pub may : (path : List ℕ) → Contains values path → MayChoose p.net.links it path
   pub has : (paths : ℕ → List ℕ) → IsStable p paths → Contains values (paths it.router)
   pub distinct : AllPairs (λ path later. path ≢ later) values
+  pub some : 0 < length values
   pub few : length values < 64
 
 -- what a router has fits what its peer has, by the router's policy

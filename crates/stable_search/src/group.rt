@@ -3,17 +3,17 @@
 ghost use Rattle.std.specs.Prelude.{◌≡◌, ◌≢◌, ◌↔◌, ◌<◌, ◌≤◌, ℕ, List, IfOk, IfErr, IfSome, OnOk, IsTrue, length, slice_index};
 ghost use Rattle.std.specs.List.{All, AllPairs, Any, Contains};
 ghost use Rattle.stable_search.specs.Following.{AreLevels};
-ghost use Rattle.stable_search.specs.Groups.{IsGroup, AreGroups, FoundGroups, TellsOf, RefusesSearch, RefusesPlaces, FindsGroups};
+ghost use Rattle.stable_search.specs.Groups.{IsGroup, AreGroups, HaveGroups, TellsOf, RefusesSearch, RefusesPlaces, FindsGroups};
 ghost use Rattle.stable_search.specs.Groups.{IsLed};
 ghost use Rattle.stable_search.specs.Led.{IsOpen, HaveLed, FindsLed};
 ghost use Rattle.stable_search.specs.Parting.{IsPartGroup};
-ghost use Rattle.stable_search.specs.Picks.{AreWithin, AreAll, Narrows};
+ghost use Rattle.stable_search.specs.Picks.{AllSome, AreWithin, AreAll, Narrows};
 ghost use Rattle.stable_search.specs.declared.way.Way.{Way};
 
 use crate::following::{levels_of, no_levels};
 use crate::keeping::keep_seen;
 use crate::limits::SearchLimits;
-use crate::narrowing::narrow_all;
+use crate::narrowing::{all_some, narrow_some};
 use crate::parting::{all_values_at, labels_of, places_with, sets_with, ways_with};
 use crate::refusal::SearchError;
 use crate::sampling::keep_possible;
@@ -170,7 +170,7 @@ fn first_groups(
     requires within { AreWithin (length sets.old) ways.now }
     ensures narrows { OnOk result (Narrows ways.now sets.old sets.new) }
     ensures found { IfOk result (λ found. IfSome found (λ groups.
-        FoundGroups ways.now sets.old limits.now.most groups.items)) }
+        HaveGroups ways.now sets.old limits.now.most groups.items)) }
     ensures refused { IfErr result (RefusesPlaces seats.now ways.now sets.old limits.now.most) }
 {
     match groups_of(alloc, seats, ways, sets, limits) {
@@ -187,6 +187,31 @@ fn first_groups(
         }
         Err(why) => Err(why),
     }
+}
+
+// What `first_groups` finds, unless a set would lose its last value: then the sets stay, and nothing is found.
+fn first_some(
+    alloc: Global,
+    seats: &[Seat],
+    ways: &[Way],
+    sets: &mut [u64],
+    limits: &SearchLimits,
+) -> Result<Option<Vec<Group>>, SearchError>
+    requires seats { length seats.now ≡ length sets.old }
+    requires within { AreWithin (length sets.old) ways.now }
+    ensures narrows { OnOk result (Narrows ways.now sets.old sets.new) }
+    ensures some { OnOk result (AllSome sets.old → AllSome sets.new) }
+    ensures found { IfOk result (λ found. IfSome found (λ groups.
+        HaveGroups ways.now sets.old limits.now.most groups.items)) }
+    ensures refused { IfErr result (RefusesPlaces seats.now ways.now sets.old limits.now.most) }
+{
+    let mut left = Vec::from_slice(alloc, sets)?;
+    let first = first_groups(alloc, seats, ways, left.as_mut_slice(), limits)?;
+    if !all_some(left.as_slice()) {
+        return Ok(None);
+    }
+    sets.copy_from_slice(left.as_slice());
+    Ok(first)
 }
 
 /// Places in groups.
@@ -269,9 +294,9 @@ pub(crate) fn groups(
     requires within { AreWithin (length sets.old) ways.now }
     ensures { FindsLed seats.now ways.now sets.old limits.now.most result }
 {
-    narrow_all(ways, sets, u64::MAX);
+    narrow_some(alloc, ways, sets)?;
     let levels = levels_of(alloc, seats, ways, sets)?;
-    let first = first_groups(alloc, seats, ways, sets, limits)?;
+    let first = first_some(alloc, seats, ways, sets, limits)?;
     if let Some(groups) = led_groups(alloc, seats, ways, sets, levels.as_slice(), limits)? {
         return Ok(Grouping { groups, levels });
     }

@@ -1,10 +1,11 @@
 //! Sets of values without those that no value of another place fits.
 
-ghost use Rattle.std.specs.Prelude.{◌≡◌, ◌<◌, ◌≤◌, ◌⊎◌, ℕ, [], ◌∷◌, true, length, slice_index};
+ghost use Rattle.std.specs.Prelude.{◌≡◌, ◌<◌, ◌≤◌, ◌⊎◌, ℕ, [], ◌∷◌, true, IsTrue, OnOk, length, slice_index};
 ghost use Rattle.std.specs.Int.RustNames.{bit_and};
-ghost use Rattle.stable_search.specs.Picks.{Has, IsWithin, AreWithin, Narrows};
+ghost use Rattle.stable_search.specs.Picks.{AllSome, Has, IsWithin, AreWithin, Narrows};
 
 use crate::way::Way;
+use std::alloc::{AllocError, Global};
 
 // Whether it is seen that no value of the set fits the value.
 fn is_alone(fits: &[u64], value: usize, theirs: u64) -> bool
@@ -95,4 +96,41 @@ pub(crate) fn narrow_all(ways: &[Way], sets: &mut [u64], marks: u64)
             return;
         }
     }
+}
+
+// Whether a set has a value.
+fn has_some(set: u64) -> bool
+    ensures { IsTrue result → (value : ℕ) × Has set value }
+{
+    set != 0
+}
+
+/// Whether each set has a value.
+pub(crate) fn all_some(sets: &[u64]) -> bool
+    ensures { IsTrue result → AllSome sets.now }
+{
+    for set in sets {
+        if !has_some(*set) {
+            return false;
+        }
+    }
+    true
+}
+
+/// Removes the values that nothing fits, unless a set would lose its last one.
+pub(crate) fn narrow_some(
+    alloc: Global,
+    ways: &[Way],
+    sets: &mut [u64],
+) -> Result<(), AllocError>
+    requires { AreWithin (length sets.old) ways.now }
+    ensures narrows { OnOk result (Narrows ways.now sets.old sets.new) }
+    ensures some { OnOk result (AllSome sets.old → AllSome sets.new) }
+{
+    let mut left = Vec::from_slice(alloc, sets)?;
+    narrow_all(ways, left.as_mut_slice(), u64::MAX);
+    if all_some(left.as_slice()) {
+        sets.copy_from_slice(left.as_slice());
+    }
+    Ok(())
 }

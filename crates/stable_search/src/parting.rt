@@ -4,7 +4,7 @@ ghost use Rattle.std.specs.Prelude.{◌≡◌, ◌≢◌, ◌↔◌, ◌<◌, �
 ghost use Rattle.std.specs.Prelude.{IfOk, length, map, slice_index, true, if◌then◌else◌};
 ghost use Rattle.std.specs.List.{All, AllPairs, Contains};
 ghost use Rattle.stable_search.specs.Groups.{at_places};
-ghost use Rattle.stable_search.specs.Parting.{IsFree, Joins, AreLabels, InPart, KeepsPart, IsPartSets};
+ghost use Rattle.stable_search.specs.Parting.{IsFree, Joins, AreLabels, InPart, KeepsPart, AreCopies, IsPartSets};
 ghost use Rattle.stable_search.specs.Picks.{Has, FitsWay, IsWithin, AreWithin};
 ghost use Rattle.stable_search.specs.declared.way.Way.{Way};
 
@@ -133,6 +133,7 @@ pub(crate) fn ways_with(
     ensures within { IfOk result (λ part. AreWithin (length labels.now) part.items) }
     ensures inside { IfOk result (λ part. All (InPart labels.now label) part.items) }
     ensures part { IfOk result (λ part. KeepsPart labels.now label ways.now part.items) }
+    ensures copies { IfOk result (λ part. AreCopies labels.now label ways.now part.items) }
 {
     let mut part = Vec::new(alloc);
     for way in ways {

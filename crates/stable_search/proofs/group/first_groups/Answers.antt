@@ -2,7 +2,6 @@ use Rattle.std.proofs.Common.{sym, subst}
 use Rattle.std.specs.List.{All}
 use Rattle.std.proofs.lemmas.Result.{err_from_is_err_and}
 use Rattle.stable_search.specs.Groups.{IsGroup, AreGroups}
-use Rattle.stable_search.proofs.NarrowLemmas.{narrows_start}
 use Rattle.stable_search.proofs.group.first_groups.Goals as goal
 
 pub keep_picked-requires : goal.keep_picked-requires
@@ -21,7 +20,7 @@ returns-else-keep_picked-clause-narrows c =
     kept
 
 pub returns-else-keep_picked-clause-found : goal.returns-else-keep_picked-clause-found
-returns-else-keep_picked-clause-found c = (c.args.sets.now, narrows_start c.args.ways.now c.args.sets.now, c.in-Ok.ensures)
+returns-else-keep_picked-clause-found c = c.in-Ok.ensures
 
 pub returns-in_err-keep_possible-in-Err-TooManyChoices-clause-refused : goal.returns-in_err-keep_possible-in-Err-TooManyChoices-clause-refused
 returns-in_err-keep_possible-in-Err-TooManyChoices-clause-refused c =

@@ -4,8 +4,8 @@ use Rattle.std.proofs.lemmas.List.{take_all}
 use Rattle.std.proofs.lemmas.List.Elements.{All-push}
 use Rattle.stable_search.specs.declared.way.Way.{Way}
 use Rattle.stable_search.specs.Picks.{IsWithin, AreWithin}
-use Rattle.stable_search.specs.Parting.{InPart, KeepsPart}
-use Rattle.stable_search.proofs.PartLemmas.{part_add, part_skip, within_copy}
+use Rattle.stable_search.specs.Parting.{InPart, AreCopies}
+use Rattle.stable_search.proofs.PartLemmas.{copies_add, copies_skip, keeps_of, within_copy}
 use Rattle.stable_search.proofs.parting.ways_with.Goals as goal
 use Rattle.stable_search.proofs.parting.ways_with.Goals.{then-labels-way+then-labels-way-2+in_ok-copied+in_ok-push, else-labels-way, else-labels-way-via-then-labels-way+else-labels-way-2, else-labels-way-via-else-labels-way}
 
@@ -26,14 +26,14 @@ loop-way-preserved c =
           let same = w.in_ok-copied.ensures in
           let added = ap (λ v. v.items) w.part-is ∙ w.in_ok-push.ensures.items in (
             subst (AreWithin (length labels)) (sym added) (All-push (IsWithin (length labels)) old copy inv.0 (within_copy (length labels) way copy same.0 same.1 same.2 w_in)),
-            part_add labels label ways i way c.loop-way-test.true c.way-item.is old new copy same.0 same.1 same.2 added (w.if-labels-way.true, w.if-labels-way-2.true) inv.1,
+            copies_add labels label ways i way c.loop-way-test.true c.way-item.is old new copy same added inv.1,
             subst (All (InPart labels label)) (sym added)
                 (All-push (InPart labels label) old copy inv.2 (ap (λ (n : ℕ). get_or labels n 0) same.0 ∙ w.if-labels-way.true, ap (λ (n : ℕ). get_or labels n 0) same.1 ∙ w.if-labels-way-2.true)),
           )
       | else-labels-way w ↦
           let kept = ap (λ v. v.items) w.part-is in (
             subst (AreWithin (length labels)) (sym kept) inv.0,
-            part_skip labels label ways i way c.loop-way-test.true c.way-item.is old new kept
+            copies_skip labels label ways i way c.loop-way-test.true c.way-item.is old new kept
                 (λ inside. elim w.else-labels-way.branch [
                   | else-labels-way-via-then-labels-way+else-labels-way-2 v ↦ v.if-labels-way-2.false inside.1
                   | else-labels-way-via-else-labels-way v ↦ v.if-labels-way.false inside.0
@@ -43,6 +43,11 @@ loop-way-preserved c =
           )
     ]
 
+pub returns-clause-copies : goal.returns-clause-copies
+returns-clause-copies c =
+    subst (λ (ws : List Way). AreCopies c.args.labels.now c.args.label ws c.loop-way.part.items) (take_all c.loop-way.way-index c.args.ways.now c.loop-way-test.false) c.loop-way.invariant.1
+
 pub returns-clause-part : goal.returns-clause-part
 returns-clause-part c =
-    subst (λ (ws : List Way). KeepsPart c.args.labels.now c.args.label ws c.loop-way.part.items) (take_all c.loop-way.way-index c.args.ways.now c.loop-way-test.false) c.loop-way.invariant.1
+    let copies = subst (λ (ws : List Way). AreCopies c.args.labels.now c.args.label ws c.loop-way.part.items) (take_all c.loop-way.way-index c.args.ways.now c.loop-way-test.false) c.loop-way.invariant.1 in
+    keeps_of c.args.labels.now c.args.label c.args.ways.now c.loop-way.part.items copies c.loop-way.invariant.2

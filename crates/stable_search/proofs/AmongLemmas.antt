@@ -1,0 +1,320 @@
+-- The choices of a part are those of its routers' paths that fit together.
+use Rattle.std.proofs.Common.{◌≡◌, ℕ, zero, suc, ◌<◌, ◌+◌, ◌==◌, Bool, cond, List, [], ◌∷◌, length, get_or, map, refl, sym, ap, subst, ◌∙◌, eq-eqb, ne_eqb, arith, inl, inr}
+use Rattle.std.specs.List.{All, AllPairs, Contains}
+use Rattle.std.specs.Int.{bit_at}
+use Rattle.std.proofs.lemmas.Bool.{cases_eq, cases_lt}
+use Rattle.std.proofs.lemmas.List.{length-map, get_or_default}
+use Rattle.ranked_policy.specs.Plans.{IsRouter, Linked, numbers}
+use Rattle.ranked_policy.proofs.OneTable.{one_table}
+use Rattle.ranked_policy.proofs.Reached.{linked_back}
+use Rattle.stable_paths.specs.Stable.{Problem, IsInstance, IsStable}
+use Rattle.stable_search.specs.declared.every.Component.{Component}
+use Rattle.stable_search.specs.declared.group.Group.{Group}
+use Rattle.stable_search.specs.declared.seat.Seat.{Seat}
+use Rattle.stable_search.specs.declared.way.Way.{Way}
+use Rattle.stable_search.specs.Every.{HasChoice, AreChoices, ChooseAmong}
+use Rattle.stable_search.specs.Fits.{FitsAt, StableIsFitting}
+use Rattle.stable_search.specs.Groups.{at_places, AreGroups, AreOwn, AreValues, ArePartsOf, ArePlaces, FitsBetween, IsGroup, IsPartOf}
+use Rattle.stable_search.specs.Led.{AreLed}
+use Rattle.stable_search.specs.Parting.{IsCopy}
+use Rattle.stable_search.specs.Picks.{AllSome, FitsWay, Has, Narrows}
+use Rattle.stable_search.specs.Refusals.{FitTogether, FitsAmong}
+use Rattle.stable_search.specs.Seats.{IsSeat, FitsBoth, FitsEnd, StandsAt, IsWayOf, AreWaysOf}
+use Rattle.stable_search.proofs.CombineLemmas.{path_in, have_choice, either_path, same_in}
+use Rattle.stable_search.proofs.EveryLemmas.{Picked, picked, one_value, linked_apart, begins, at_end, router_at, has_paths, low, solves, at_index, routers_once, has_at, picks_part, router_in, in_router}
+use Rattle.stable_search.proofs.PartLemmas.{same_fit, group_before}
+use Rattle.stable_search.proofs.PlaceLemmas.{stands, here}
+use Rattle.stable_search.proofs.RefusalLemmas.{value_at, by_seat, by_seat_is, some_routers, together, together_same, path_is}
+use Rattle.stable_search.proofs.RelateLemmas.{same_seat}
+
+-- ---- the values of a set
+
+-- the values whose places, from this one on, are in the set
+kept : List (List ℕ) → ℕ → ℕ → List (List ℕ)
+kept [] set at = []
+kept (x ∷ xs) set at = cond (bit_at set at == 1) (x ∷ kept xs set (at + 1)) (kept xs set (at + 1))
+
+kept_first : (x : List ℕ) (xs : List (List ℕ)) (set at : ℕ) → Has set at → kept (x ∷ xs) set at ≡ x ∷ kept xs set (at + 1)
+unfolding kept
+kept_first x xs set at has = ap (λ (b : Bool). cond b (x ∷ kept xs set (at + 1)) (kept xs set (at + 1))) (eq-eqb (bit_at set at) 1 has)
+
+kept_later : (x : List ℕ) (xs : List (List ℕ)) (set at : ℕ) → (Has set at → ⊥) → kept (x ∷ xs) set at ≡ kept xs set (at + 1)
+unfolding kept
+kept_later x xs set at not = ap (λ (b : Bool). cond b (x ∷ kept xs set (at + 1)) (kept xs set (at + 1))) (ne_eqb (bit_at set at) 1 not)
+
+behind : (x path : List ℕ) (xs : List (List ℕ)) → Contains xs path → Contains (x ∷ xs) path
+behind x path xs c = (suc c.0, omega (arith, c.1), c.2)
+
+kept_has : (xs : List (List ℕ)) (set at j : ℕ) → j < length xs → Has set (at + j) → Contains (kept xs set at) (get_or xs j [])
+kept_has [] set at j lt has = absurd (omega (arith, lt))
+kept_has (x ∷ xs) set at zero lt has =
+    subst (λ (ys : List (List ℕ)). Contains ys x) (sym (kept_first x xs set at (subst (Has set) (omega arith) has))) (0, omega arith, refl)
+kept_has (x ∷ xs) set at (suc j) lt has =
+    let later = kept_has xs set (at + 1) j (omega (arith, lt)) (subst (Has set) (omega arith) has) in
+    elim (cases_eq (bit_at set at) 1) [
+      | inl first ↦ subst (λ (ys : List (List ℕ)). Contains ys (get_or xs j [])) (sym (kept_first x xs set at first)) (behind x (get_or xs j []) (kept xs set (at + 1)) later)
+      | inr not ↦ subst (λ (ys : List (List ℕ)). Contains ys (get_or xs j [])) (sym (kept_later x xs set at not)) later
+    ]
+
+-- the place of a value that is kept
+record Kept (xs : List (List ℕ)) (set at : ℕ) (path : List ℕ) : Type 0 where
+  j : ℕ
+  inside : j < length xs
+  has : Has set (at + j)
+  is : get_or xs j [] ≡ path
+
+has_kept : (xs : List (List ℕ)) (set at : ℕ) (path : List ℕ) → Contains (kept xs set at) path → Kept xs set at path
+unfolding kept
+has_kept [] set at path c = absurd (omega (arith, c.1))
+has_kept (x ∷ xs) set at path c = elim (cases_eq (bit_at set at) 1) [
+  | inl first ↦ one (has_kept xs set (at + 1) path) first (subst (λ (ys : List (List ℕ)). Contains ys path) (kept_first x xs set at first) c)
+  | inr not ↦ more (has_kept xs set (at + 1) path (subst (λ (ys : List (List ℕ)). Contains ys path) (kept_later x xs set at not) c))
+]
+  where
+    more : Kept xs set (at + 1) path → Kept (x ∷ xs) set at path
+    more k = record { j = suc k.j; inside = (let lt = k.inside in omega (arith, lt)); has = subst (Has set) (omega arith) k.has; is = k.is }
+
+    one : (Contains (kept xs set (at + 1)) path → Kept xs set (at + 1) path) → Has set at → Contains (x ∷ kept xs set (at + 1)) path → Kept (x ∷ xs) set at path
+    one later first (zero, lt, e) = record { j = 0; inside = omega arith; has = subst (Has set) (omega arith) first; is = e }
+    one later first (suc n, lt, e) = more (later (n, omega (arith, lt), e))
+
+-- the values of each seat are some
+pub seats_some : (p : Problem) (seats : List Seat) → All (IsSeat p) seats → (sets : List ℕ) → AreValues seats sets → AllSome sets
+seats_some p seats each sets values i lt =
+    let s = stands seats i (omega (arith, lt, values.0)) in
+    (0, (values.1 i 0 s.0 s.1).1 (here (IsSeat p) seats i s.0 each s.1).some)
+
+-- in a list of one place all places are one
+same_place : (places : List ℕ) (one other : ℕ) → length places ≡ 1 → Contains places one → Contains places other → one ≡ other
+same_place places one other size c d =
+    let i : c.0 ≡ 0 = (let lt = c.1 in omega (arith, lt, size)) in
+    let j : d.0 ≡ 0 = (let lt = d.1 in omega (arith, lt, size)) in
+    sym c.2 ∙ get_or_default places c.0 one other c.1 ∙ ap (λ (n : ℕ). get_or places n other) (i ∙ sym j) ∙ d.2
+
+module _ (p : Problem) (is : IsInstance p) (law : StableIsFitting) (seats : List Seat) (at : map (λ (s : Seat). s.router) seats ≡ numbers p.net.routers) (each : All (IsSeat p) seats)
+    (ways : List Way) (over : AreWaysOf p.net.links seats ways) (sets : List ℕ) (values : AreValues seats sets) (now : List ℕ) (narrows : Narrows ways sets now)
+    (levels : List ℕ) (groups : List Group) (led : AreLed ways sets now levels groups) (parts : List Component) (of : ArePartsOf seats levels groups parts) (alive : AllSome now) where
+  size_now : length now ≡ length seats
+  size_now = narrows.size ∙ values.0
+
+  seat_is : (i : ℕ) (s : Seat) → StandsAt seats i s → IsSeat p s
+  seat_is i s st = here (IsSeat p) seats i s each st
+
+  -- ---- the paths that a router may have
+
+  abbrev may : ℕ → List (List ℕ)
+  may u = by_seat (λ (s : Seat) set. kept s.values.items set 0) [] seats now u
+
+  may_is : (i : ℕ) (s : Seat) → StandsAt seats i s → may s.router ≡ kept s.values.items (get_or now i 0) 0
+  may_is i s st = by_seat_is (λ (s : Seat) set. kept s.values.items set 0) [] seats now i s (routers_once p is seats at) st size_now
+
+  -- a value of the set stands for one of them
+  may_has : (i : ℕ) (s : Seat) → StandsAt seats i s → (v : ℕ) (path : List ℕ) → Has (get_or now i 0) v → get_or s.values.items v [] ≡ path → Contains (may s.router) path
+  may_has i s st v path has e =
+      let inside : v < length s.values.items = (values.1 i v s st).0 (narrows.fewer i v has) in
+      subst (λ (ys : List (List ℕ)). Contains ys path) (sym (may_is i s st)) (subst (Contains (kept s.values.items (get_or now i 0) 0)) e (kept_has s.values.items (get_or now i 0) 0 v inside (subst (Has (get_or now i 0)) (omega arith) has)))
+
+  may_some : (u : ℕ) → IsRouter p.net.routers u → 0 < length (may u)
+  may_some u router =
+      let r = router_at p is law seats at each ways over sets values u router in
+      let a = alive r.0 (let lt = r.2.0 in omega (arith, lt, size_now)) in
+      let c = may_has r.0 r.1 r.2 a.0 (get_or r.1.values.items a.0 []) a.1 refl in
+      subst (λ (n : ℕ). 0 < length (may n)) r.3 (let lt = c.1 in omega (arith, lt))
+
+  may_stable : (paths : ℕ → List ℕ) → IsStable p paths → (u : ℕ) → IsRouter p.net.routers u → Contains (may u) (paths u)
+  may_stable paths stable u router =
+      let r = router_at p is law seats at each ways over sets values u router in
+      let k = picked seats paths (has_paths p is law seats at each ways over sets values paths stable) in
+      let inside = narrows.keeps k.pick (solves p is law seats at each ways over sets values paths ((law p is paths).0 stable) k) in
+      subst (λ (n : ℕ). Contains (may n) (paths n)) r.3
+      (may_has r.0 r.1 r.2 (get_or k.pick r.0 0) (paths r.1.router) (inside.each r.0 (let lt = r.2.0 in omega (arith, lt, size_now))) (k.is r.0 r.1 r.2))
+
+  -- ---- a group and its part
+
+  module _ (g : ℕ) (group : Group) (part : Component) (st : StandsAt groups g group) (pt : StandsAt parts g part) where
+    fall : IsGroup now group
+    fall = here (IsGroup now) groups g group led.fall.each st
+
+    group_is : IsGroup sets group
+    group_is = group_before ways sets now group narrows fall
+
+    of_part : IsPartOf seats levels group part
+    of_part = of.each g group part st pt
+
+    own : AreOwn led.core now group
+    own = here (AreOwn led.core now) groups g group led.fall.own st
+
+    seated : (i : ℕ) → Contains group.places i → (s : Seat) × StandsAt seats i s
+    seated i c = stands seats i (let inside = fall.inside c.0 i c.1 in let e = c.2 in omega (arith, inside, e, size_now))
+
+    are : ArePlaces sets group.places
+    are = record { inside = group_is.inside; some = group_is.some; rising = group_is.rising }
+
+    -- no way leads from a place that follows to one of its group
+    way_flat : (way : Way) → IsWayOf p.net.links seats way → Contains group.places way.from → Contains group.places way.to → (place : ℕ) → Contains group.places place → 0 < get_or levels place 0 → ⊥
+    way_flat way w from to place c up =
+        let single : length group.places ≡ 1 = here (λ (x : Group). (place : ℕ) → Contains x.places place → 0 < get_or levels place 0 → length x.places ≡ 1) groups g group led.alone st place c up in
+        let same : way.to ≡ way.from = same_place group.places way.to way.from single to from in
+        let one : w.other ≡ w.one = same_seat seats way.from w.other w.one (subst (λ (n : ℕ). StandsAt seats n w.other) same w.to) w.from in
+        linked_apart p.net is.problem.network w.one.router w.other.router w.linked (ap (λ (s : Seat). s.router) (sym one))
+
+    flat : (way : Way) → IsWayOf p.net.links seats way → Contains group.places way.from → Contains group.places way.to → (place : ℕ) → Contains group.places place → get_or levels place 0 ≡ 0
+    flat way w from to place c = elim (cases_lt 0 (get_or levels place 0)) [
+      | inl up ↦ absurd (way_flat way w from to place c up)
+      | inr none ↦ omega (arith, none)
+    ]
+
+    -- what fits over the copies fits over the ways
+    outer : (pick : List ℕ) → FitsBetween led.core now group.places pick → FitsBetween ways sets group.places pick
+    outer pick fit = record {
+      size = fit.size ∙ narrows.size;
+      each = λ i c. narrows.fewer i (get_or pick i 0) (fit.each i c);
+      fits = λ k d lt from to.
+          (let way = get_or ways k d in
+          let w = over.each k d lt in
+          let c = led.copies.all k d lt (flat way w from to way.from from, flat way w from to way.to to) in
+          let copy_fits = fit.fits c.0 c.1 c.2 in
+          let fits : FitsWay pick c.1 = subst (λ (x : Way). Contains group.places x.from → Contains group.places x.to → FitsWay pick x) c.3 copy_fits
+          (subst (Contains group.places) (sym c.4.0) from) (subst (Contains group.places) (sym c.4.1) to) in
+          (same_fit pick way c.1 c.4.0 c.4.1 c.4.2).0 fits);
+    }
+
+    -- ---- a choice fits together
+
+    module _ (paths : ℕ → List ℕ) (c : HasChoice paths part) where
+      abbrev j : ℕ
+      j = c.0
+
+      jlt : j < length group.picks
+      jlt = (let lt = c.1 in omega (arith, lt, of_part.count))
+
+      is_choice : get_or part.choices j [] ≡ map paths part.routers
+      is_choice = get_or_default part.choices j [] (map paths part.routers) c.1 ∙ c.2
+
+      fit : (pick : List ℕ) × FitsBetween led.core now group.places pick × (get_or group.picks j [] ≡ at_places pick group.places)
+      fit = own.fit j [] jlt
+
+      -- the pick stands for the paths
+      value_is_path : (i : ℕ) (s : Seat) → Contains group.places i → StandsAt seats i s → get_or s.values.items (get_or fit.0 i 0) [] ≡ paths s.router
+      value_is_path i s place at_seat =
+          let klt : place.0 < length group.places = place.1 in
+          let i_is : get_or group.places place.0 0 ≡ i = get_or_default group.places place.0 0 i klt ∙ place.2 in
+          let here_at : StandsAt seats (get_or group.places place.0 0) s = subst (λ (n : ℕ). StandsAt seats n s) (sym i_is) at_seat in
+          let value : get_or (get_or group.picks j []) place.0 0 ≡ get_or fit.0 i 0 = ap (λ (q : List ℕ). get_or q place.0 0) fit.2 ∙ at_index group.places fit.0 place.0 klt ∙ ap (λ (n : ℕ). get_or fit.0 n 0) i_is in
+          ap (λ (v : ℕ). get_or s.values.items v []) (sym value) ∙ has_at seats sets values levels group group_is part of_part paths j jlt is_choice place.0 klt s here_at
+
+      choice_may : (u : ℕ) → Contains part.routers u → Contains (may u) (paths u)
+      choice_may u in_part =
+          let r = router_in seats sets values levels group group_is part of_part u in_part in
+          subst (λ (n : ℕ). Contains (may n) (paths n)) r.4 (may_has r.0 r.1 r.3 (get_or fit.0 r.0 0) (paths r.1.router) (fit.1.each r.0 r.2) (value_is_path r.0 r.1 r.2 r.3))
+
+      choice_fits : FitTogether p part.routers paths
+      choice_fits =
+          let full = outer fit.0 fit.1 in
+          together_same p part.routers (value_at seats fit.0) paths
+          (λ u in_part.
+          (let r = router_in seats sets values levels group group_is part of_part u in_part in
+          subst (λ (n : ℕ). value_at seats fit.0 n ≡ paths n) r.4
+          (path_is p is law seats at each ways over sets values group.places part.routers are of_part.routers fit.0 full r.0 r.1 r.3 ∙ value_is_path r.0 r.1 r.2 r.3)))
+          (together p is law seats at each ways over sets values group.places part.routers are of_part.routers fit.0 full)
+
+    -- ---- what fits together is a choice
+
+    module _ (paths : ℕ → List ℕ) (have : (u : ℕ) → Contains part.routers u → Contains (may u) (paths u)) (fit : FitTogether p part.routers paths) where
+      -- each other router has its first path
+      abbrev other : ℕ → List ℕ
+      other u = path_in part.routers (map paths part.routers) u (by_seat (λ (s : Seat) set. get_or s.values.items 0 []) [] seats now u)
+
+      routers_rising : AllPairs (λ u v. u < v) part.routers
+      routers_rising = (some_routers p is law seats at each ways over sets values group.places part.routers are of_part.routers).rising
+
+      other_maps : map other part.routers ≡ map paths part.routers
+      other_maps = have_choice part.routers (map paths part.routers) (λ u. by_seat (λ (s : Seat) set. get_or s.values.items 0 []) [] seats now u) routers_rising (length-map part.routers paths)
+
+      other_is : (u : ℕ) → Contains part.routers u → other u ≡ paths u
+      other_is u c = same_in other paths part.routers u other_maps c
+
+      -- the place of a router's path among its values
+      place_of : (i : ℕ) (s : Seat) → StandsAt seats i s → Contains part.routers s.router → Kept s.values.items (get_or now i 0) 0 (other s.router)
+      place_of i s at_seat c =
+          has_kept s.values.items (get_or now i 0) 0 (other s.router)
+          (subst (Contains (kept s.values.items (get_or now i 0) 0)) (sym (other_is s.router c)) (subst (λ (ys : List (List ℕ)). Contains ys (paths s.router)) (may_is i s at_seat) (have s.router c)))
+
+      other_has : (i : ℕ) (s : Seat) → StandsAt seats i s → Contains s.values.items (other s.router)
+      other_has i s at_seat = elim (either_path part.routers (map paths part.routers) s.router (by_seat (λ (s : Seat) set. get_or s.values.items 0 []) [] seats now s.router)) [
+        | inl first ↦
+            let some = (seat_is i s at_seat).some in
+            let e = first ∙ by_seat_is (λ (s : Seat) set. get_or s.values.items 0 []) [] seats now i s (routers_once p is seats at) at_seat size_now in
+            (0, some, get_or_default s.values.items 0 (other s.router) [] some ∙ sym e)
+        | inr c ↦
+            let k = place_of i s at_seat c in
+            (k.j, k.inside, get_or_default s.values.items k.j (other s.router) [] k.inside ∙ k.is)
+      ]
+
+      values_are : Picked seats other
+      values_are = picked seats other other_has
+
+      together_other : FitTogether p part.routers other
+      together_other = together_same p part.routers paths other (λ u c. sym (other_is u c)) fit
+
+      -- at one end of a link between two of the routers
+      end_fits : (i : ℕ) (s : Seat) → StandsAt seats i s → Contains part.routers s.router → (v : ℕ) → Contains part.routers v → Linked p.net.links s.router v → FitsEnd s v (other s.router) (other v)
+      end_fits i s at_seat c v cv linked =
+          let x = seat_is i s at_seat in
+          let f = together_other s.router c in
+          let among : FitsAmong p part.routers other x.table = subst (FitsAmong p part.routers other) (one_table p.net s.router f.0 x.table is.problem.network f.1 x.of) f.2 in
+          at_end p s x v (other s.router) (other v) (begins p s x (other s.router) (other_has i s at_seat))
+          (λ not. subst (λ (n : ℕ). FitsAt x.table p.prefix v (other n) (other v)) x.of.0
+          (among.fits v cv (subst (λ (n : ℕ). Linked p.net.links n v) (sym x.of.0) linked) not))
+
+      way_fits : (way : Way) → IsWayOf p.net.links seats way → Contains group.places way.from → Contains group.places way.to → FitsWay values_are.pick way
+      way_fits way w from to =
+          let k = values_are in
+          let a = get_or k.pick way.from 0 in
+          let b = get_or k.pick way.to 0 in
+          let one_in = in_router seats sets values levels group group_is part of_part way.from w.one from w.from in
+          let other_in = in_router seats sets values levels group group_is part of_part way.to w.other to w.to in
+          let mine = end_fits way.from w.one w.from one_in w.other.router other_in w.linked in
+          let theirs = end_fits way.to w.other w.to other_in w.one.router one_in (linked_back p.net.links w.one.router w.other.router w.linked) in
+          let both : FitsBoth w.one w.other (other w.one.router) (other w.other.router) = (mine, theirs) in
+          (w.fits.exact a b (k.inside way.from w.one w.from) (k.inside way.to w.other w.to)).1
+          (subst (λ (q : List ℕ). FitsBoth w.one w.other q (get_or w.other.values.items b [])) (sym (k.is way.from w.one w.from))
+          (subst (FitsBoth w.one w.other (other w.one.router)) (sym (k.is way.to w.other w.to)) both))
+
+      between : FitsBetween led.core now group.places values_are.pick
+      between = record {
+        size = values_are.size ∙ sym size_now;
+        each = λ i c.
+            (let s = seated i c in
+            let in_part = in_router seats sets values levels group group_is part of_part i s.0 c s.1 in
+            let k = place_of i s.0 s.1 in_part in
+            let x = seat_is i s.0 s.1 in
+            let same : k.j ≡ get_or values_are.pick i 0 = one_value s.0.values.items k.j (get_or values_are.pick i 0) x.distinct k.inside (values_are.inside i s.0 s.1) (k.is ∙ sym (values_are.is i s.0 s.1)) in
+            subst (Has (get_or now i 0)) same (subst (Has (get_or now i 0)) (omega arith) k.has));
+        fits = λ n d lt from to.
+            (let w = led.copies.only n d lt in
+            let copy = get_or led.core n d in
+            let way_is : IsWayOf p.net.links seats w.1 = subst (IsWayOf p.net.links seats) w.3 (over.each w.0 w.1 w.2) in
+            let from_in = subst (Contains group.places) w.4.0 from in
+            let to_in = subst (Contains group.places) w.4.1 to in
+            (same_fit values_are.pick w.1 copy w.4.0 w.4.1 w.4.2).1 (way_fits w.1 way_is from_in to_in));
+      }
+
+      fits_choice : HasChoice paths part
+      fits_choice =
+          let c = own.whole values_are.pick (low p is law seats at each ways over sets values other values_are) between in
+          subst (Contains part.choices) other_maps (picks_part seats sets values levels group group_is part of_part other values_are c)
+
+  pub among : ChooseAmong p parts
+  among = record {
+    may = may;
+    some = may_some;
+    has = may_stable;
+    choices = λ g d lt paths.
+        (let group = stands groups g (omega (arith, lt, of.size)) in
+        let part = get_or parts g d in
+        let pt : StandsAt parts g part = (lt, get_or_default parts g part d lt) in (
+          λ c. (choice_may g group.0 part group.1 pt paths c, choice_fits g group.0 part group.1 pt paths c),
+          λ both. fits_choice g group.0 part group.1 pt paths both.0 both.1,
+        ));
+  }
