@@ -30,7 +30,7 @@ pub(crate) struct Group {
     /// The places.
     pub(crate) places: NetItems<usize>,
     /// The picks: each has a value for every place, in the order of the places.
-    pub(crate) picks: NetItems<NetItems<usize>>,
+    pub(crate) picks: NetItems<NetItems<u8>>,
 }
 
 /// The refusal of a search that stopped, with the routers at the places that were searched.
@@ -56,7 +56,7 @@ fn searched(
     ways: &[Way],
     sets: Vec<u64>,
     limits: &SearchLimits,
-) -> Result<Vec<NetItems<usize>>, SearchError>
+) -> Result<Vec<NetItems<u8>>, SearchError>
     requires within { AreWithin (length sets.items) ways.now }
     requires places { All (λ place. place < length seats.now) places.now }
     ensures all { IfOk result (λ found. AreAll ways.now sets.items found.items) }

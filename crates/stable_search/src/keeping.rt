@@ -9,7 +9,7 @@ ghost use Rattle.stable_search.specs.declared.way.Way.{Way};
 use ranked_policy::NetItems;
 
 // The values that picks have at one of their places, as a set.
-fn seen_at(picks: &[NetItems<usize>], k: usize) -> u64
+fn seen_at(picks: &[NetItems<u8>], k: usize) -> u64
     requires { All (λ pick. (k < length pick) × (slice_index pick k < 64)) picks.now }
     ensures { All (λ pick. Has result (slice_index pick k)) picks.now }
 {
@@ -22,7 +22,7 @@ fn seen_at(picks: &[NetItems<usize>], k: usize) -> u64
 
 // Removes from the set of a place the values that none of the picks has at its k-th place, and answers whether there
 // were any.
-fn keep_at(place: usize, k: usize, picks: &[NetItems<usize>], sets: &mut [u64]) -> bool
+fn keep_at(place: usize, k: usize, picks: &[NetItems<u8>], sets: &mut [u64]) -> bool
     requires inside { place < length sets.old }
     requires picks { All (λ pick. (k < length pick) × (slice_index pick k < 64)) picks.now }
     ensures { (ways : List Way)
@@ -38,7 +38,7 @@ fn keep_at(place: usize, k: usize, picks: &[NetItems<usize>], sets: &mut [u64]) 
 
 /// Removes from the sets of these places the values that none of their picks has, and answers whether there were any.
 /// Without a pick the sets stay.
-pub(crate) fn keep_seen(places: &[usize], picks: &[NetItems<usize>], sets: &mut [u64]) -> bool
+pub(crate) fn keep_seen(places: &[usize], picks: &[NetItems<u8>], sets: &mut [u64]) -> bool
     requires inside { All (λ place. place < length sets.old) places.now }
     requires picks { All (IsLowPick places.now) picks.now }
     ensures { (ways : List Way) → AreCovered ways sets.old places.now picks.now → Narrows ways sets.old sets.new }

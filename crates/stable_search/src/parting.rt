@@ -165,7 +165,7 @@ pub(crate) fn sets_with(
 }
 
 // The values that a pick has at these places.
-fn values_at(alloc: Global, pick: &[usize], places: &[usize]) -> Result<NetItems<usize>, AllocError>
+fn values_at(alloc: Global, pick: &[u8], places: &[usize]) -> Result<NetItems<u8>, AllocError>
     requires { All (λ place. place < length pick.now) places.now }
     ensures { IfOk result (λ values. values ≡ at_places pick.now places.now) }
 {
@@ -179,9 +179,9 @@ fn values_at(alloc: Global, pick: &[usize], places: &[usize]) -> Result<NetItems
 /// The values that each pick has at these places.
 pub(crate) fn all_values_at(
     alloc: Global,
-    picks: &[NetItems<usize>],
+    picks: &[NetItems<u8>],
     places: &[usize],
-) -> Result<NetItems<NetItems<usize>>, AllocError>
+) -> Result<NetItems<NetItems<u8>>, AllocError>
     requires { All (λ pick. All (λ place. place < length pick) places.now) picks.now }
     ensures { IfOk result (λ values. values ≡ map (λ pick. at_places pick places.now) picks.now) }
 {

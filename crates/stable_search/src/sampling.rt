@@ -20,7 +20,7 @@ use ranked_policy::NetItems;
 use std::alloc::{AllocError, Global};
 
 // Marks the value of each place that a pick has.
-fn mark_pick(pick: &[usize], seen: &mut [u64])
+fn mark_pick(pick: &[u8], seen: &mut [u64])
     ensures { MarksMore seen.old seen.new }
 {
     for (place, value) in pick.iter().enumerate() {
@@ -61,7 +61,7 @@ fn try_value(
 {
     let mut one = Vec::from_slice(alloc, sets)?;
     one[place] = 1 << value;
-    let mut found: Vec<NetItems<usize>> = Vec::new(alloc);
+    let mut found: Vec<NetItems<u8>> = Vec::new(alloc);
     match search(alloc, ways, one, mark_of(place), 0, steps, &mut found) {
         Ok(()) => Ok(()),
         Err(Stop::TooManyChoices) => {

@@ -31,7 +31,7 @@ fn shown(
     alloc: Global,
     seats: &[Seat],
     places: &[usize],
-    pick: &[usize],
+    pick: &[u8],
 ) -> Result<NetItems<Path>, AllocError>
     requires inside { All (λ place. place < length seats.now) places.now }
     requires size { length pick.now ≡ length places.now }
@@ -41,7 +41,7 @@ fn shown(
 {
     let mut choice = Vec::with_capacity(alloc, places.len())?;
     for (k, place) in places.iter().enumerate() {
-        let path = &seats[*place].values[pick[k]];
+        let path = &seats[*place].values[usize::from(pick[k])];
         choice.push(Path::from_slice(alloc, path.as_slice())?)?;
     }
     Ok(NetItems::from_vec(choice))
