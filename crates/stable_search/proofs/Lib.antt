@@ -17,5 +17,6 @@ pub mod PlaceLemmas
 pub mod FixLemmas
 pub mod ReachLemmas
 pub mod RefusalLemmas
+pub mod ChoiceLemmas
 pub mod CombineLemmas
 pub mod WholeLemmas

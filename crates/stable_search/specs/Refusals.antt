@@ -8,11 +8,12 @@ use Rattle.stable_search.specs.declared.every.Component.{Component}
 use Rattle.stable_search.specs.declared.limits.SearchLimits.{SearchLimits}
 use Rattle.stable_search.specs.declared.refusal.SearchError.{SearchError}
 use Rattle.stable_search.specs.declared.refusal.SearchError.TheVariants as refusals
+use Rattle.stable_search.specs.Every.{choices_of}
 use Rattle.stable_search.specs.Fits.{MayStand, FitsAt}
 
 -- no part has more choices than so many
 abbrev pub AreFew : ℕ → List Component → Type 0
-AreFew most parts = All (λ part. length part.choices ≤ most) parts
+AreFew most parts = All (λ part. length (choices_of part) ≤ most) parts
 
 -- routers of the problem, rising, at least one
 pub record AreSomeRouters (p : Problem) (routers : List ℕ) : Type 0 where
