@@ -14,7 +14,7 @@ use crate::following::{levels_of, no_levels};
 use crate::keeping::keep_seen;
 use crate::limits::SearchLimits;
 use crate::narrowing::narrow_all;
-use crate::parting::{all_values_at, labels_of, places_with, sets_with, ways_with};
+use crate::parting::{keep_values_at, labels_of, places_with, sets_with, ways_with};
 use crate::refusal::SearchError;
 use crate::sampling::keep_possible;
 use crate::searching::search;
@@ -103,7 +103,7 @@ fn group_of(
 {
     let part_ways = ways_with(alloc, ways, labels, label)?;
     let part_sets = sets_with(alloc, sets, labels, label)?;
-    let found = searched(
+    let mut picks = searched(
         alloc,
         seats,
         places.as_slice(),
@@ -111,10 +111,10 @@ fn group_of(
         part_sets,
         limits,
     )?;
-    let picks = all_values_at(alloc, found.as_slice(), places.as_slice())?;
+    keep_values_at(alloc, picks.as_mut_slice(), places.as_slice())?;
     Ok(Group {
         places: NetItems::from_vec(places),
-        picks,
+        picks: NetItems::from_vec(picks),
     })
 }
 
@@ -156,9 +156,41 @@ fn keep_picked(groups: &[Group], sets: &mut [u64]) -> bool
     some
 }
 
+// Whether each group has a pick.
+fn have_picks(groups: &[Group]) -> bool
+    ensures { IsTrue result ↔ All (λ group. 0 < length group.picks) groups.now }
+{
+    for group in groups {
+        if group.picks.is_empty() {
+            return false;
+        }
+    }
+    true
+}
+
+// Whether each group has exactly one pick.
+fn have_one_pick(groups: &[Group]) -> bool
+    ensures { IsTrue result ↔ All (λ group. length group.picks ≡ 1) groups.now }
+{
+    for group in groups {
+        if group.picks.len() != 1 {
+            return false;
+        }
+    }
+    true
+}
+
+// Whether each group has a pick, and not each just one. Then some group of the places that follow none has several too.
+fn have_several(groups: &[Group]) -> bool
+    ensures { IsTrue result ↔ All (λ group. 0 < length group.picks) groups.now
+        × (All (λ group. length group.picks ≡ 1) groups.now → ⊥) }
+{
+    have_picks(groups) && !have_one_pick(groups)
+}
+
 // The groups of places that bear on each other, if no value can be removed that none of their picks has. Else the sets are
-// without such values. Where a group has too many picks for a list, only so many of them are
-// found that this is known.
+// without such values. Where a group has too many picks for a list, only so many of them are found that this is known.
+// Groups that have several picks are let go, since those of the places that follow none are the answer.
 fn first_groups(
     alloc: Global,
     seats: &[Seat],
@@ -175,7 +207,7 @@ fn first_groups(
 {
     match groups_of(alloc, seats, ways, sets, limits) {
         Ok(groups) => {
-            if keep_picked(groups.as_slice(), sets) {
+            if keep_picked(groups.as_slice(), sets) || have_several(groups.as_slice()) {
                 Ok(None)
             } else {
                 Ok(Some(groups))
