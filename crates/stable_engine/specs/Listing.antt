@@ -5,7 +5,7 @@ use Rattle.prefix_lanes.specs.Bits.{PrefixView}
 use Rattle.ranked_policy.specs.declared.network.NetRouter.{NetRouter}
 use Rattle.net_text.specs.Printing.{line, prefix_text, marked, numbers_text, routed_line}
 use Rattle.stable_search.specs.declared.every.Component.{Component}
-use Rattle.stable_search.specs.Every.{number_of}
+use Rattle.stable_search.specs.Every.{choices_of, number_of}
 
 -- ---- lines
 
@@ -51,7 +51,7 @@ only_text q u vs (choice ∷ []) = route_text q u vs choice
 only_text q u vs (choice ∷ other ∷ choices) = []
 
 abbrev pub routes_of : PrefixView → ℕ → List Component → List ℕ
-routes_of q u parts = flat_map (λ part. only_text q u part.routers part.choices) parts
+routes_of q u parts = flat_map (λ part. only_text q u part.routers (choices_of part)) parts
 
 abbrev pub routes_text : PrefixView → List NetRouter → List Component → List ℕ
 routes_text q routers parts = flat_map (λ r. routes_of q r.asn parts) routers
@@ -59,13 +59,13 @@ routes_text q routers parts = flat_map (λ r. routes_of q r.asn parts) routers
 -- ---- disputes
 
 abbrev pub is_dispute : Component → Bool
-is_dispute part = not part.follows && not (length part.choices == 1)
+is_dispute part = not part.follows && not (length (choices_of part) == 1)
 
 abbrev pub choices_text : List (List (List ℕ)) → List ℕ
 choices_text choices = flat_map choice_line choices
 
 abbrev pub dispute_text : ℕ → PrefixView → Component → List ℕ
-dispute_text i q part = dispute_line i q (length part.choices) part.routers ++ choices_text part.choices
+dispute_text i q part = dispute_line i q (length (choices_of part)) part.routers ++ choices_text (choices_of part)
 
 -- disputes, each with its number; the first has this one
 abbrev pub disputes_text : ℕ → PrefixView → List Component → List ℕ
@@ -75,7 +75,7 @@ disputes_text i q (part ∷ parts) = dispute_text i q part ++ disputes_text (i +
 -- ---- routers that follow
 
 abbrev pub follow_text : PrefixView → Component → List ℕ
-follow_text q part = if part.follows then follow_line q part.routers part.choices else []
+follow_text q part = if part.follows then follow_line q part.routers (choices_of part) else []
 
 abbrev pub follows_text : PrefixView → List Component → List ℕ
 follows_text q parts = flat_map (λ part. follow_text q part) parts

@@ -1,31 +1,53 @@
 //! The parts of an answer: the routers that have the same path in all stable assignments, and the disputes.
 
-ghost use Rattle.std.specs.Prelude.{◌≡◌, ◌++◌, ◌+◌, ◌<◌, ◌^◌, length, filter, IfOk, OnOk};
+ghost use Rattle.std.specs.Prelude.{◌≡◌, ◌++◌, ◌+◌, ◌<◌, ◌^◌, [], codes, length, slice_index_or, filter, IfOk, OnOk};
 ghost use Rattle.std.specs.List.{All};
-ghost use Rattle.stable_search.specs.Every.{IsPart};
+ghost use Rattle.net_text.specs.Printing.{routed_line};
+ghost use Rattle.stable_search.specs.Every.{choices_of, IsPart};
 ghost use Rattle.stable_engine.specs.Listing.{route_text, only_text, routes_of, routes_text, is_dispute, choices_text, dispute_text, disputes_text, follow_text, follows_text, every_text};
 
 use crate::lines::{put_choice_line, put_dispute_line, put_follow_line, put_prefix_line};
 use net_text::path_line;
 use prefix_lanes::Prefix;
-use ranked_policy::{Asn, NetItems, NetRouter, Path};
+use ranked_policy::{Asn, NetRouter};
 use stable_search::{Component, Every};
 use std::alloc::{AllocError, Global};
 
-// Appends the path of a router, if it is among these routers, which have these paths.
+// Appends the path that the first choice of a part has for the router at a place.
+fn put_route_at(
+    prefix: &Prefix,
+    router: Asn,
+    part: &Component,
+    place: usize,
+    out: &mut Vec<u8>,
+) -> Result<(), AllocError>
+    requires part { IsPart part.now }
+    requires some { 0 < length (choices_of part.now) }
+    requires place { place < length part.now.routers }
+    ensures { OnOk result (out.new.items ≡ out.old.items ++ routed_line (codes "route ") router prefix.now
+        (slice_index_or (slice_index_or (choices_of part.now) 0 []) place [])) }
+{
+    let Some(path) = part.path(0, place) else {
+        return Ok(());
+    };
+    path_line(b"route ", router, prefix, path.as_slice(), out)
+}
+
+// Appends the path that the first choice of a part has for a router, if it is of the part.
 fn put_route(
     prefix: &Prefix,
     router: Asn,
-    routers: &[Asn],
-    paths: &[Path],
+    part: &Component,
     out: &mut Vec<u8>,
 ) -> Result<(), AllocError>
-    requires { length paths.now ≡ length routers.now }
-    ensures { OnOk result (out.new.items ≡ out.old.items ++ route_text prefix.now router routers.now paths.now) }
+    requires part { IsPart part.now }
+    requires some { 0 < length (choices_of part.now) }
+    ensures { OnOk result (out.new.items ≡ out.old.items
+        ++ route_text prefix.now router part.now.routers (slice_index_or (choices_of part.now) 0 [])) }
 {
-    for (k, other) in routers.iter().enumerate() {
+    for (k, other) in part.routers.as_slice().iter().enumerate() {
         if *other == router {
-            return path_line(b"route ", router, prefix, paths[k].as_slice(), out);
+            return put_route_at(prefix, router, part, k, out);
         }
     }
     Ok(())
@@ -40,18 +62,12 @@ fn put_only(
 ) -> Result<(), AllocError>
     requires { IsPart part.now }
     ensures { OnOk result
-        (out.new.items ≡ out.old.items ++ only_text prefix.now router part.now.routers part.now.choices) }
+        (out.new.items ≡ out.old.items ++ only_text prefix.now router part.now.routers (choices_of part.now)) }
 {
-    match part.choices.as_slice() {
-        [choice] => put_route(
-            prefix,
-            router,
-            part.routers.as_slice(),
-            choice.as_slice(),
-            out,
-        ),
-        _ => Ok(()),
+    if part.choice_count() != 1 {
+        return Ok(());
     }
+    put_route(prefix, router, part, out)
 }
 
 // Appends the path of a router, if it has the same path in all stable assignments.
@@ -87,11 +103,12 @@ fn put_routes(
 }
 
 // Appends the choices of a dispute.
-fn put_choices(choices: &[NetItems<Path>], out: &mut Vec<u8>) -> Result<(), AllocError>
-    ensures { OnOk result (out.new.items ≡ out.old.items ++ choices_text choices.now) }
+fn put_choices(part: &Component, out: &mut Vec<u8>) -> Result<(), AllocError>
+    requires { IsPart part.now }
+    ensures { OnOk result (out.new.items ≡ out.old.items ++ choices_text (choices_of part.now)) }
 {
-    for choice in choices {
-        put_choice_line(choice.as_slice(), out)?;
+    for choice in 0..part.choice_count() {
+        put_choice_line(part, choice, out)?;
     }
     Ok(())
 }
@@ -103,20 +120,22 @@ fn put_dispute(
     part: &Component,
     out: &mut Vec<u8>,
 ) -> Result<(), AllocError>
+    requires { IsPart part.now }
     ensures { OnOk result (out.new.items ≡ out.old.items ++ dispute_text number prefix.now part.now) }
 {
-    let choices = part.choices.as_slice();
-    put_dispute_line(number, prefix, choices.len(), part.routers.as_slice(), out)?;
-    put_choices(choices, out)
+    let count = part.choice_count();
+    put_dispute_line(number, prefix, count, part.routers.as_slice(), out)?;
+    put_choices(part, out)
 }
 
 // Appends the disputes among these parts.
 fn put_disputes(prefix: &Prefix, parts: &[Component], out: &mut Vec<u8>) -> Result<(), AllocError>
+    requires { All IsPart parts.now }
     ensures { OnOk result (out.new.items ≡ out.old.items ++ disputes_text 1 prefix.now (filter is_dispute parts.now)) }
 {
     let mut number = 1usize;
     for part in parts {
-        if !part.follows && part.choices.len() != 1 {
+        if !part.follows && part.choice_count() != 1 {
             put_dispute(number, prefix, part, out)?;
             number += 1;
         }
@@ -126,21 +145,18 @@ fn put_disputes(prefix: &Prefix, parts: &[Component], out: &mut Vec<u8>) -> Resu
 
 // Appends the paths of a router that follows.
 fn put_follow(prefix: &Prefix, part: &Component, out: &mut Vec<u8>) -> Result<(), AllocError>
+    requires { IsPart part.now }
     ensures { OnOk result (out.new.items ≡ out.old.items ++ follow_text prefix.now part.now) }
 {
     if !part.follows {
         return Ok(());
     }
-    put_follow_line(
-        prefix,
-        part.routers.as_slice(),
-        part.choices.as_slice(),
-        out,
-    )
+    put_follow_line(prefix, part, out)
 }
 
 // Appends the routers that follow among these parts.
 fn put_follows(prefix: &Prefix, parts: &[Component], out: &mut Vec<u8>) -> Result<(), AllocError>
+    requires { All IsPart parts.now }
     ensures { OnOk result (out.new.items ≡ out.old.items ++ follows_text prefix.now parts.now) }
 {
     for part in parts {

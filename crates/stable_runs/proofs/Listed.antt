@@ -7,7 +7,7 @@ use Rattle.ranked_policy.specs.Plans.{IsOrigin}
 use Rattle.ranked_policy.proofs.PlaceLemmas.{one_origin}
 use Rattle.stable_search.specs.declared.every.Every.{Every}
 use Rattle.stable_search.specs.declared.every.Component.{Component}
-use Rattle.stable_search.specs.Every.{HasChoice, IsEveryStable}
+use Rattle.stable_search.specs.Every.{choices_of, HasChoice, IsEveryStable}
 use Rattle.run_model.specs.Offers.{Settled}
 use Rattle.snap_marker.specs.Recordings.{RouterPart}
 use Rattle.router_model.specs.Settings.{Setting, IsSetting, names}
@@ -38,15 +38,15 @@ same_at f h (v ∷ us) u e (suc i, lt, c) = let rest : map f us ≡ map h us = c
 
 pub is_in_none : (paths : ℕ → List ℕ) (every : Every) → ListsNone every → AreListed paths every → ⊥
 is_in_none paths every none listed =
-    none_in_empty none.1.choices (map paths none.1.routers) none.4 (subst (HasChoice paths) none.3 (listed none.0 none.1 none.2))
+    none_in_empty (choices_of none.1) (map paths none.1.routers) none.4 (subst (HasChoice paths) none.3 (listed none.0 none.1 none.2))
 
 pub same_in_one : (paths others : ℕ → List ℕ) (every : Every) → ListsOne every → AreListed paths every → AreListed others every
     → (u : ℕ) → Any (λ part. Contains part.routers u) every.parts → paths u ≡ others u
 same_in_one paths others every one mine theirs u at =
-    let single : length at.1.choices ≡ 1 = subst (λ (part : Component). length part.choices ≡ 1) at.3 (one at.0 at.1 at.2) in
+    let single : length (choices_of at.1) ≡ 1 = subst (λ (part : Component). length (choices_of part) ≡ 1) at.3 (one at.0 at.1 at.2) in
     let a : HasChoice paths at.1 = subst (HasChoice paths) at.3 (mine at.0 at.1 at.2) in
     let b : HasChoice others at.1 = subst (HasChoice others) at.3 (theirs at.0 at.1 at.2) in
-    same_at paths others at.1.routers u (both_first at.1.choices (map paths at.1.routers) (map others at.1.routers) single a b) at.4
+    same_at paths others at.1.routers u (both_first (choices_of at.1) (map paths at.1.routers) (map others at.1.routers) single a b) at.4
 
 -- ---- a settled snapshot
 

@@ -5,7 +5,7 @@ use Rattle.prefix_lanes.specs.Bits.{PrefixView}
 use Rattle.ranked_policy.specs.Plans.{Plan, IsRouter, IsOrigin}
 use Rattle.stable_paths.specs.Stable.{Problem, IsStable}
 use Rattle.stable_search.specs.declared.every.Every.{Every}
-use Rattle.stable_search.specs.Every.{HasChoice, IsEveryStable}
+use Rattle.stable_search.specs.Every.{choices_of, HasChoice, IsEveryStable}
 use Rattle.run_model.specs.Offers.{Settled}
 use Rattle.snap_marker.specs.Recordings.{RouterPart}
 use Rattle.snap_collector.specs.Collector.{CollectorView}
@@ -31,11 +31,11 @@ AreListed paths every = All (HasChoice paths) every.parts
 
 -- no assignment is stable: a part has no choice
 abbrev pub ListsNone : Every → Type 0
-ListsNone every = Any (λ part. part.choices ≡ []) every.parts
+ListsNone every = Any (λ part. choices_of part ≡ []) every.parts
 
 -- one assignment is stable: each part has one choice
 abbrev pub ListsOne : Every → Type 0
-ListsOne every = All (λ part. length part.choices ≡ 1) every.parts
+ListsOne every = All (λ part. length (choices_of part) ≡ 1) every.parts
 
 -- the settled snapshots of a state of a run
 pub record SettlesInListed (g : Setting) (state : RunState) : Type 0 where

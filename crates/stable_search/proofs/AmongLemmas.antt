@@ -12,14 +12,14 @@ use Rattle.stable_search.specs.declared.every.Component.{Component}
 use Rattle.stable_search.specs.declared.group.Group.{Group}
 use Rattle.stable_search.specs.declared.seat.Seat.{Seat}
 use Rattle.stable_search.specs.declared.way.Way.{Way}
-use Rattle.stable_search.specs.Every.{HasChoice, AreChoices, ChooseAmong}
-use Rattle.stable_search.specs.Fits.{FitsAt, StableIsFitting}
+use Rattle.stable_search.specs.Every.{choices_of, HasChoice, AreChoices, ChooseAmong}
+use Rattle.stable_search.specs.Fits.{FitsAt, FitsAmong, FitTogether, StableIsFitting}
 use Rattle.stable_search.specs.Groups.{at_places, AreGroups, AreOwn, AreValues, ArePartsOf, ArePlaces, FitsBetween, IsGroup, IsPartOf}
 use Rattle.stable_search.specs.Led.{AreLed}
 use Rattle.stable_search.specs.Parting.{IsCopy}
 use Rattle.stable_search.specs.Picks.{AllSome, FitsWay, Has, Narrows}
-use Rattle.stable_search.specs.Refusals.{FitTogether, FitsAmong}
 use Rattle.stable_search.specs.Seats.{IsSeat, FitsBoth, FitsEnd, StandsAt, IsWayOf, AreWaysOf}
+use Rattle.stable_search.proofs.ChoiceLemmas.{as_many}
 use Rattle.stable_search.proofs.CombineLemmas.{path_in, have_choice, either_path, same_in}
 use Rattle.stable_search.proofs.EveryLemmas.{Picked, picked, one_value, linked_apart, begins, at_end, router_at, has_paths, low, solves, at_index, routers_once, has_at, picks_part, router_in, in_router}
 use Rattle.stable_search.proofs.PartLemmas.{same_fit, group_before}
@@ -186,10 +186,10 @@ module _ (p : Problem) (is : IsInstance p) (law : StableIsFitting) (seats : List
       j = c.0
 
       jlt : j < length group.picks
-      jlt = (let lt = c.1 in omega (arith, lt, of_part.count))
+      jlt = (let lt = c.1 in let many = as_many seats levels group part of_part in omega (arith, lt, many))
 
-      is_choice : get_or part.choices j [] ≡ map paths part.routers
-      is_choice = get_or_default part.choices j [] (map paths part.routers) c.1 ∙ c.2
+      is_choice : get_or (choices_of part) j [] ≡ map paths part.routers
+      is_choice = get_or_default (choices_of part) j [] (map paths part.routers) c.1 ∙ c.2
 
       fit : (pick : List ℕ) × FitsBetween led.core now group.places pick × (get_or group.picks j [] ≡ at_places pick group.places)
       fit = own.fit j [] jlt
@@ -303,7 +303,7 @@ module _ (p : Problem) (is : IsInstance p) (law : StableIsFitting) (seats : List
       fits_choice : HasChoice paths part
       fits_choice =
           let c = own.whole values_are.pick (low p is law seats at each ways over sets values other values_are) between in
-          subst (Contains part.choices) other_maps (picks_part seats sets values levels group group_is part of_part other values_are c)
+          subst (Contains (choices_of part)) other_maps (picks_part seats sets values levels group group_is part of_part other values_are c)
 
   pub among : ChooseAmong p parts
   among = record {

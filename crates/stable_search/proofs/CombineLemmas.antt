@@ -13,7 +13,7 @@ use Rattle.stable_paths.specs.Stable.{IsBest}
 use Rattle.stable_paths.proofs.TableLemmas.{linked_is}
 use Rattle.stable_search.specs.declared.every.Component.{Component}
 use Rattle.stable_search.specs.Counting.{what_all_have, leads, StableAreCounted, NoneWithoutOrigin}
-use Rattle.stable_search.specs.Every.{HasChoice, HaveChoices, Agree, IsPart, number_of}
+use Rattle.stable_search.specs.Every.{choices_of, HasChoice, HaveChoices, Agree, IsPart, number_of}
 use Rattle.stable_search.proofs.PickLemmas.{pairs_append}
 
 -- ---- each of some before each of others
@@ -105,13 +105,13 @@ once_each {X} (c ∷ cs) rests once apart =
 
 pub combinations : List Component → List (List (List (List ℕ)))
 combinations [] = [] ∷ []
-combinations (part ∷ parts) = with_each part.choices (combinations parts)
+combinations (part ∷ parts) = with_each (choices_of part) (combinations parts)
 
 -- as many as the product of the numbers of choices, for the parts that don't follow
-count_by : (b : Bool) (part : Component) (parts : List Component) (n : ℕ) → length (combinations parts) ≡ n → length (combinations (cond (not b) (part ∷ parts) parts)) ≡ cond b 1 (length part.choices) * n
+count_by : (b : Bool) (part : Component) (parts : List Component) (n : ℕ) → length (combinations parts) ≡ n → length (combinations (cond (not b) (part ∷ parts) parts)) ≡ cond b 1 (length (choices_of part)) * n
 unfolding combinations
 count_by true part parts n e = omega (arith, e)
-count_by false part parts n e = length_each part.choices (combinations parts) ∙ ap (λ (m : ℕ). length part.choices * m) e
+count_by false part parts n e = length_each (choices_of part) (combinations parts) ∙ ap (λ (m : ℕ). length (choices_of part) * m) e
 
 count_is : (parts : List Component) → length (combinations (filter leads parts)) ≡ number_of parts
 unfolding combinations
@@ -134,22 +134,22 @@ one_pairs x i j d lt inside = absurd (omega (arith, lt, inside))
 pub combined_once : (parts : List Component) → All IsPart parts → AllPairs (λ a b. a ≢ b) (combinations parts)
 unfolding combinations
 combined_once [] all = one_pairs []
-combined_once (part ∷ parts) all = once_each part.choices (combinations parts) (first_part IsPart part parts all).once (combined_once parts (other_parts IsPart part parts all))
+combined_once (part ∷ parts) all = once_each (choices_of part) (combinations parts) (first_part IsPart part parts all).once (combined_once parts (other_parts IsPart part parts all))
 
 pub chosen_in : (paths : ℕ → List ℕ) (parts : List Component) → All (HasChoice paths) parts → Contains (combinations parts) (what_all_have paths parts)
 unfolding combinations
 chosen_in paths [] all = (0, omega arith, refl)
 chosen_in paths (part ∷ parts) all =
-    in_each part.choices (combinations parts) (map paths part.routers) (what_all_have paths parts) (first_part (HasChoice paths) part parts all) (chosen_in paths parts (other_parts (HasChoice paths) part parts all))
+    in_each (choices_of part) (combinations parts) (map paths part.routers) (what_all_have paths parts) (first_part (HasChoice paths) part parts all) (chosen_in paths parts (other_parts (HasChoice paths) part parts all))
 
 pub in_chosen : (paths : ℕ → List ℕ) (parts : List Component) → Contains (combinations parts) (what_all_have paths parts) → All (HasChoice paths) parts
 unfolding combinations
 in_chosen paths [] c = λ k d lt. absurd (omega (arith, lt))
 in_chosen paths (part ∷ parts) c =
-    let f = out_each part.choices (combinations parts) (what_all_have paths (part ∷ parts)) c in
+    let f = out_each (choices_of part) (combinations parts) (what_all_have paths (part ∷ parts)) c in
     let mine : map paths part.routers ≡ f.first = same_first (map paths part.routers) f.first (what_all_have paths parts) f.rest f.is in
     let others : what_all_have paths parts ≡ f.rest = same_rest (map paths part.routers) f.first (what_all_have paths parts) f.rest f.is in
-    all_parts (HasChoice paths) part parts (subst (Contains part.choices) (sym mine) f.of) (in_chosen paths parts (subst (Contains (combinations parts)) (sym others) f.from))
+    all_parts (HasChoice paths) part parts (subst (Contains (choices_of part)) (sym mine) f.of) (in_chosen paths parts (subst (Contains (combinations parts)) (sym others) f.from))
 
 -- ---- the assignment of a combination
 
@@ -236,7 +236,7 @@ unfolding combinations paths_of
 combined [] all apart one (zero, lt, e) = e
 combined [] all apart one (suc k, lt, e) = absurd (omega (arith, lt))
 combined (part ∷ parts) all apart one c =
-    let f = out_each part.choices (combinations parts) one c in
+    let f = out_each (choices_of part) (combinations parts) one c in
     let is = first_part IsPart part parts all in
     let paths : ℕ → List ℕ = λ u. path_in part.routers f.first u (paths_of parts f.rest u) in
     let whole : length f.first ≡ length part.routers = subst (λ (x : List (List ℕ)). length x ≡ length part.routers) f.of.2 (is.whole f.of.0 f.first f.of.1) in
@@ -259,11 +259,11 @@ pub record Chosen (paths : ℕ → List ℕ) (parts : List Component) : Type 0 w
   pub same : (k : ℕ) (d : Component) → k < length parts → (get_or parts k d).follows ≡ false → get_or one k [] ≡ map paths (get_or parts k d).routers
 
 first_of : (paths : ℕ → List ℕ) (part : Component) → IsPart part → (part.follows ≡ false → HasChoice paths part)
-    → (choice : List (List ℕ)) × Contains part.choices choice × (part.follows ≡ false → choice ≡ map paths part.routers)
+    → (choice : List (List ℕ)) × Contains (choices_of part) choice × (part.follows ≡ false → choice ≡ map paths part.routers)
 first_of paths part is have = elim (cases_Bool part.follows) [
   | inl led ↦
       let more = (is.alone led).1 in
-      (get_or part.choices 0 [], Contains-get_or part.choices 0 [] (omega (arith, more)), λ own. absurd (both_ways part.follows own led))
+      (get_or (choices_of part) 0 [], Contains-get_or (choices_of part) 0 [] (omega (arith, more)), λ own. absurd (both_ways part.follows own led))
   | inr own ↦ (map paths part.routers, have own, λ _. refl)
 ]
 
@@ -275,7 +275,7 @@ chosen paths (part ∷ parts) all have =
     let first = first_of paths part (first_part IsPart part parts all) (first_part (λ x. x.follows ≡ false → HasChoice paths x) part parts have) in
     record {
       one = first.0 ∷ rest.one;
-      in_all = in_each part.choices (combinations parts) first.0 rest.one first.1 rest.in_all;
+      in_all = in_each (choices_of part) (combinations parts) first.0 rest.one first.1 rest.in_all;
       same = λ k d lt own. at first.0 rest first.2 k d lt own;
     }
   where

@@ -15,11 +15,12 @@ use Rattle.stable_search.specs.declared.group.Group.{Group}
 use Rattle.stable_search.specs.declared.seat.Seat.{Seat}
 use Rattle.stable_search.specs.declared.way.Way.{Way}
 use Rattle.stable_search.specs.Fits.{MayStand, FitsAt, FitsPeers, IsFitting, StableIsFitting}
-use Rattle.stable_search.specs.Every.{HasChoice, IsPart}
+use Rattle.stable_search.specs.Every.{picked_paths, choices_of, ArePlacesIn, HasChoice, IsPart}
 use Rattle.stable_search.specs.Following.{IsUp}
 use Rattle.stable_search.specs.Picks.{FitsWay, Solves}
 use Rattle.stable_search.specs.Seats.{IsSeat, FitsBy, FitsEnd, FitsBoth, StandsAt, IsWayOf, AreWaysOf}
-use Rattle.stable_search.specs.Groups.{at_places, IsPickOf, IsGroup, AreValues, IsLed, IsPartOf}
+use Rattle.stable_search.specs.Groups.{at_places, IsPickOf, IsGroup, AreValues, IsShown, IsLed, IsPartOf}
+use Rattle.stable_search.proofs.ChoiceLemmas.{as_many, path_picked, size_picked}
 use Rattle.stable_search.proofs.FitLemmas.{not_nil}
 use Rattle.stable_search.proofs.PlaceLemmas.{stands, here}
 use Rattle.stable_search.proofs.RelateLemmas.{same_seat}
@@ -272,18 +273,35 @@ module _ (seats : List Seat) (sets : List ℕ) (values : AreValues seats sets) (
   seat_of : (k : ℕ) → k < length group.places → (s : Seat) × StandsAt seats (get_or group.places k 0) s
   seat_of k lt = stands seats (get_or group.places k 0) (let inside = is.inside k 0 lt in omega (arith, inside, values.0))
 
+  count : length (choices_of part) ≡ length group.picks
+  count = as_many seats levels group part of
+
+  -- the part's choices are those that the group's picks stand for
+  shown : (j : ℕ) → j < length group.picks → IsShown seats group.places (get_or group.picks j []) (get_or (choices_of part) j [])
+  shown j jlt =
+      let pick : List ℕ = get_or group.picks j [] in
+      let of_pick : IsPickOf sets group.places pick = is.picks j [] jlt in
+      let choice : get_or (choices_of part) j [] ≡ picked_paths part.values pick =
+      get_or-map (picked_paths part.values) part.picks j [] [] (omega (arith, jlt, ap length of.picks)) ∙ ap (λ (ps : List (List ℕ)). picked_paths part.values (get_or ps j [])) of.picks in
+      subst (IsShown seats group.places pick) (sym choice) (record {
+        size = size_picked part.values pick (of_pick.size ∙ sym of.values.size) ∙ of.values.size;
+        each = λ k s klt st.
+            path_picked part.values pick k (omega (arith, klt, of.values.size)) (omega (arith, klt, of_pick.size))
+            ∙ ap (λ (vs : List (List ℕ)). get_or vs (get_or pick k 0) []) (of.values.each k s klt st);
+      })
+
   -- a pick of the group that stands for a choice of the part
   pick_path : (j k : ℕ) → j < length group.picks → k < length group.places → (s : Seat) → StandsAt seats (get_or group.places k 0) s
       → (get_or (get_or group.picks j []) k 0 < length s.values.items)
-      × (get_or (get_or part.choices j []) k [] ≡ get_or s.values.items (get_or (get_or group.picks j []) k 0) [])
+      × (get_or (get_or (choices_of part) j []) k [] ≡ get_or s.values.items (get_or (get_or group.picks j []) k 0) [])
   pick_path j k jlt klt s st =
-      ((values.1 (get_or group.places k 0) (get_or (get_or group.picks j []) k 0) s st).0 ((is.picks j [] jlt).each k klt), (of.shown j jlt).each k s klt st)
+      ((values.1 (get_or group.places k 0) (get_or (get_or group.picks j []) k 0) s st).0 ((is.picks j [] jlt).each k klt), (shown j jlt).each k s klt st)
 
-  pub choice_size : (j : ℕ) → j < length group.picks → length (get_or part.choices j []) ≡ length part.routers
-  choice_size j jlt = (of.shown j jlt).size ∙ sym of.routers.size
+  pub choice_size : (j : ℕ) → j < length group.picks → length (get_or (choices_of part) j []) ≡ length part.routers
+  choice_size j jlt = (shown j jlt).size ∙ sym of.routers.size
 
   module _ (paths : ℕ → List ℕ) where
-    pub has_at : (j : ℕ) → j < length group.picks → get_or part.choices j [] ≡ map paths part.routers → (k : ℕ) → k < length group.places → (s : Seat) → StandsAt seats (get_or group.places k 0) s
+    pub has_at : (j : ℕ) → j < length group.picks → get_or (choices_of part) j [] ≡ map paths part.routers → (k : ℕ) → k < length group.places → (s : Seat) → StandsAt seats (get_or group.places k 0) s
         → get_or s.values.items (get_or (get_or group.picks j []) k 0) [] ≡ paths s.router
     has_at j jlt e k klt s st =
         sym (pick_path j k jlt klt s st).1
@@ -294,8 +312,8 @@ module _ (seats : List Seat) (sets : List ℕ) (values : AreValues seats sets) (
     -- where the part has a choice, each router of it has one of its values
     pub part_has : HasChoice paths part → (i : ℕ) (s : Seat) → Contains group.places i → StandsAt seats i s → Contains s.values.items (paths s.router)
     part_has c i s place st =
-        let jlt : c.0 < length group.picks = omega (arith, c.1, of.count) in
-        let e : get_or part.choices c.0 [] ≡ map paths part.routers = get_or_default part.choices c.0 [] (map paths part.routers) c.1 ∙ c.2 in
+        let jlt : c.0 < length group.picks = omega (arith, c.1, count) in
+        let e : get_or (choices_of part) c.0 [] ≡ map paths part.routers = get_or_default (choices_of part) c.0 [] (map paths part.routers) c.1 ∙ c.2 in
         let klt : place.0 < length group.places = place.1 in
         let i_is : get_or group.places place.0 0 ≡ i = get_or_default group.places place.0 0 i klt ∙ place.2 in
         let here_at : StandsAt seats (get_or group.places place.0 0) s = subst (λ (n : ℕ). StandsAt seats n s) (sym i_is) st in
@@ -306,8 +324,8 @@ module _ (seats : List Seat) (sets : List ℕ) (values : AreValues seats sets) (
     -- and its values are one of the group's picks
     pub part_picks : ((i : ℕ) (s : Seat) → StandsAt seats i s → AllPairs (λ path later. path ≢ later) s.values.items) → (k : Picked seats paths) → HasChoice paths part → Contains group.picks (at_places k.pick group.places)
     part_picks once k c =
-        let jlt : c.0 < length group.picks = omega (arith, c.1, of.count) in
-        let e : get_or part.choices c.0 [] ≡ map paths part.routers = get_or_default part.choices c.0 [] (map paths part.routers) c.1 ∙ c.2 in
+        let jlt : c.0 < length group.picks = omega (arith, c.1, count) in
+        let e : get_or (choices_of part) c.0 [] ≡ map paths part.routers = get_or_default (choices_of part) c.0 [] (map paths part.routers) c.1 ∙ c.2 in
         let pick : List ℕ = get_or group.picks c.0 [] in
         let of_pick : IsPickOf sets group.places pick = is.picks c.0 [] jlt in
         let same : pick ≡ at_places k.pick group.places =
@@ -326,7 +344,7 @@ module _ (seats : List Seat) (sets : List ℕ) (values : AreValues seats sets) (
         let jlt : c.0 < length group.picks = c.1 in
         let pick : List ℕ = get_or group.picks c.0 [] in
         let pick_is : pick ≡ at_places k.pick group.places = get_or_default group.picks c.0 [] (at_places k.pick group.places) jlt ∙ c.2 in
-        let choice : List (List ℕ) = get_or part.choices c.0 [] in
+        let choice : List (List ℕ) = get_or (choices_of part) c.0 [] in
         let same : choice ≡ map paths part.routers =
         same_lists choice (map paths part.routers) (choice_size c.0 jlt ∙ sym (length-map part.routers paths)) (λ n d lt.
         (let size = choice_size c.0 jlt in
@@ -335,7 +353,18 @@ module _ (seats : List Seat) (sets : List ℕ) (values : AreValues seats sets) (
         let value : get_or pick n 0 ≡ get_or k.pick (get_or group.places n 0) 0 = ap (λ (q : List ℕ). get_or q n 0) pick_is ∙ at_index group.places k.pick n klt in
         get_or_default choice n d [] lt ∙ (pick_path c.0 n jlt klt s.0 s.1).1 ∙ ap (λ (v : ℕ). get_or s.0.values.items v []) value ∙ k.is (get_or group.places n 0) s.0 s.1
         ∙ ap paths (sym (of.routers.each n s.0 klt s.1)) ∙ sym (get_or-map paths part.routers n 0 d (omega (arith, lt, size))))) in
-        (c.0, omega (arith, jlt, of.count), get_or_default part.choices c.0 (map paths part.routers) [] (omega (arith, jlt, of.count)) ∙ same)
+        (c.0, omega (arith, jlt, count), get_or_default (choices_of part) c.0 (map paths part.routers) [] (omega (arith, jlt, count)) ∙ same)
+
+  -- a pick has a place for each router, among its paths
+  places_in : (j : ℕ) → j < length group.picks → ArePlacesIn part.values (get_or group.picks j [])
+  places_in j jlt = record {
+    size = (is.picks j [] jlt).size ∙ sym of.values.size;
+    each = λ k lt.
+        (let klt : k < length group.places = omega (arith, lt, of.values.size) in
+        let s = seat_of k klt in
+        let paths : get_or part.values k [] ≡ s.0.values.items = of.values.each k s.0 klt s.1 in
+        subst (λ (ps : List (List ℕ)). get_or (get_or group.picks j []) k 0 < length ps) (sym paths) (pick_path j k jlt klt s.0 s.1).0);
+  }
 
   -- the part's routers differ, its choices have a path for each, and none is listed twice
   pub is_part : ((i : ℕ) (s : Seat) → StandsAt seats i s → AllPairs (λ path later. path ≢ later) s.values.items)
@@ -352,13 +381,16 @@ module _ (seats : List Seat) (sets : List ℕ) (values : AreValues seats sets) (
         let one : get_or part.routers a d ≡ s.0.router = get_or_default part.routers a d 0 (omega (arith, lt, inside)) ∙ of.routers.each a s.0 alt s.1 in
         let other : get_or part.routers b d ≡ t.0.router = get_or_default part.routers b d 0 inside ∙ of.routers.each b t.0 blt t.1 in
         omega (arith, up, one, other));
-    whole = λ j d lt. ap length (get_or_default part.choices j d [] lt) ∙ choice_size j (omega (arith, lt, of.count));
+    values = of.values.size ∙ sym of.routers.size;
+    picks = subst (All (ArePlacesIn part.values)) (sym of.picks) (λ j d lt.
+        subst (ArePlacesIn part.values) (get_or_default group.picks j [] d lt) (places_in j lt));
+    whole = λ j d lt. ap length (get_or_default (choices_of part) j d [] lt) ∙ choice_size j (omega (arith, lt, count));
     once = λ a b d lt inside e.
-        (let alt : a < length group.picks = omega (arith, lt, inside, of.count) in
-        let blt : b < length group.picks = omega (arith, inside, of.count) in
+        (let alt : a < length group.picks = omega (arith, lt, inside, count) in
+        let blt : b < length group.picks = omega (arith, inside, count) in
         let one : List ℕ = get_or group.picks a [] in
         let other : List ℕ = get_or group.picks b [] in
-        let choices : get_or part.choices a [] ≡ get_or part.choices b [] = get_or_default part.choices a [] d (omega (arith, lt, inside)) ∙ e ∙ get_or_default part.choices b d [] inside in
+        let choices : get_or (choices_of part) a [] ≡ get_or (choices_of part) b [] = get_or_default (choices_of part) a [] d (omega (arith, lt, inside)) ∙ e ∙ get_or_default (choices_of part) b d [] inside in
         let of_one : IsPickOf sets group.places one = is.picks a [] alt in
         let of_other : IsPickOf sets group.places other = is.picks b [] blt in
         let same : one ≡ other =
@@ -373,7 +405,7 @@ module _ (seats : List Seat) (sets : List ℕ) (values : AreValues seats sets) (
         is.once a b [] lt blt same);
     alone = λ follows.
         (let led = of.follows.0 follows in
-        (omega (arith, single led, of.routers.size), (let more = led.0 in omega (arith, more, of.count))));
+        (omega (arith, single led, of.routers.size), (let more = led.0 in omega (arith, more, count))));
   }
 
   -- its routers are those at the group's places

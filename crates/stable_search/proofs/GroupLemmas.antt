@@ -1,7 +1,7 @@
 -- Pairs of groups and parts, and what a search adds to nothing.
-use Rattle.std.proofs.Common.{◌≡◌, ℕ, ◌<◌, ◌+◌, List, [], ◌∷◌, ◌++◌, length, get_or, sym, ap, subst, ◌∙◌, arith, inl, inr}
+use Rattle.std.proofs.Common.{◌≡◌, ℕ, ◌<◌, ◌+◌, List, [], ◌∷◌, ◌++◌, length, get_or, refl, sym, ap, subst, ◌∙◌, arith, inl, inr}
 use Rattle.std.proofs.lemmas.Bool.{cases_order}
-use Rattle.std.proofs.lemmas.List.{get_or_default, get_or_append_left, get_or_at}
+use Rattle.std.proofs.lemmas.List.{get_or_default, get_or_append_left, get_or_at, length-append}
 use Rattle.stable_search.specs.declared.way.Way.{Way}
 use Rattle.stable_search.specs.Picks.{AreAll, AddsAll}
 use Rattle.stable_search.specs.Seats.{StandsAt}
@@ -23,6 +23,14 @@ pairs_on {X} {Y} R xs ys new i x y at size e r all g a b lt xa nb =
           let under : g < i = elim differ [ inl l ↦ l | inr m ↦ absurd (omega (arith, lt, m)) ] in
           all g a b under xa (omega (arith, under, size), sym (get_or_append_left ys (y ∷ []) b g (omega (arith, under, size))) ∙ yb.1)
     ]
+
+-- one pair more stands behind two lists
+pub pairs_more : {X Y : Type 0} (R : X → Y → Type 0) (xs : List X) (ys new : List Y) (x : X) (y : Y) → length ys ≡ length xs → new ≡ ys ++ y ∷ [] → R x y
+    → ((g : ℕ) (a : X) (b : Y) → StandsAt xs g a → StandsAt ys g b → R a b) → (g : ℕ) (a : X) (b : Y) → StandsAt (xs ++ x ∷ []) g a → StandsAt new g b → R a b
+pairs_more {X} {Y} R xs ys new x y size e r all g a b xa nb =
+    let longer = length-append xs (x ∷ []) in
+    pairs_on R (xs ++ x ∷ []) ys new (length xs) x y (omega (arith, longer), get_or_at xs x [] x (length xs) refl) size e r
+    (λ h c d lt xc yd. all h c d (lt, sym (get_or_append_left xs (x ∷ []) c h lt) ∙ xc.1) yd) g a b (omega (arith, longer, xa.0)) xa nb
 
 pub all_of : (ways : List Way) (sets : List ℕ) (old new : List (List ℕ)) → old ≡ [] → AddsAll ways sets old new → AreAll ways sets new
 all_of ways sets old new none adds = subst (AreAll ways sets) (sym (adds.added ∙ ap (λ (xs : List (List ℕ)). xs ++ adds.more) none)) adds.all

@@ -1,5 +1,5 @@
 -- Sets without the values that no pick has.
-use Rattle.std.proofs.Common.{◌≡◌, ℕ, ◌<◌, ◌+◌, ◌*◌, ◌%◌, ◌^◌, List, [], length, get_or, set, sym, ap, subst, ◌∙◌, arith, inl, inr, ◌⊎◌}
+use Rattle.std.proofs.Common.{◌≡◌, ◌≢◌, ℕ, ◌<◌, ◌+◌, ◌*◌, ◌%◌, ◌^◌, List, [], length, get_or, set, sym, ap, subst, ◌∙◌, arith, inl, inr, ◌⊎◌}
 use Rattle.std.specs.List.{All, Any, Contains}
 use Rattle.std.specs.Int.{w64}
 use Rattle.std.specs.Int.RustNames.{bit_or}
@@ -10,7 +10,7 @@ use Rattle.std.proofs.lemmas.Nat.Bits.{bit_at_and, bit_at_or, bit_at-lt, bit_at_
 use Rattle.stable_search.specs.declared.group.Group.{Group}
 use Rattle.stable_search.specs.declared.way.Way.{Way}
 use Rattle.stable_search.specs.Groups.{at_places, AreCovered, AreGroups}
-use Rattle.stable_search.specs.Picks.{Has, Solves, Narrows}
+use Rattle.stable_search.specs.Picks.{Has, AllSome, Solves, Narrows}
 use Rattle.stable_search.proofs.NarrowLemmas.{has_left, narrows_then, in_before}
 
 pub has_either : (a b v : ℕ) → Has a v → Has (bit_or a b) v
@@ -72,12 +72,24 @@ module _ (ways : List Way) (sets : List ℕ) (place seen : ℕ) (inside : place 
     fewer = λ i value has. was i value has;
   }
 
--- a place keeps the values that picks have there, and each that solves has one of theirs
-pub kept_at : (ways : List Way) (sets : List ℕ) (place k seen : ℕ) (picks : List (List ℕ)) → place < length sets → All (λ pick. Has seen (get_or pick k 0)) picks
-    → ((pick : List ℕ) → Solves ways sets pick → Any (λ other. get_or other k 0 ≡ get_or pick place 0) picks) → Narrows ways sets (set sets place (bit_and (get_or sets place 0) seen))
-kept_at ways sets place k seen picks inside all covered = kept_by ways sets place seen inside (λ pick s.
-    (let any = covered pick s in
-    subst (Has seen) any.4 (subst (λ (xs : List ℕ). Has seen (get_or xs k 0)) any.3 (all any.0 any.1 any.2))))
+-- a place keeps a value
+pub some_left : (sets : List ℕ) (place left : ℕ) → place < length sets → (value : ℕ) × Has left value → AllSome sets → AllSome (set sets place left)
+some_left sets place left inside some all i lt = elim (cases_order i place) [
+  | inl same ↦
+      let here : get_or (set sets place left) i 0 ≡ left = ap (λ (n : ℕ). get_or (set sets place left) n 0) same ∙ get_or-set_same sets place left 0 inside in
+      (some.0, subst (λ (n : ℕ). Has n some.0) (sym here) some.1)
+  | inr differ ↦
+      let before = all i (omega (arith, lt, length-set sets place left)) in
+      let apart : i ≢ place = λ e. elim differ [ inl l ↦ omega (arith, l, e) | inr m ↦ omega (arith, m, e) ] in
+      (before.0, subst (λ (n : ℕ). Has n before.0) (sym (get_or-set_other sets place i left 0 apart)) before.1)
+]
+
+-- each pick that solves has at a place a value that one of these has
+pub seen_there : (ways : List Way) (sets : List ℕ) (place k seen : ℕ) (picks : List (List ℕ)) → All (λ pick. Has seen (get_or pick k 0)) picks
+    → ((pick : List ℕ) → Solves ways sets pick → Any (λ other. get_or other k 0 ≡ get_or pick place 0) picks) → (pick : List ℕ) → Solves ways sets pick → Has seen (get_or pick place 0)
+seen_there ways sets place k seen picks all covered pick s =
+    let any = covered pick s in
+    subst (Has seen) any.4 (subst (λ (xs : List ℕ). Has seen (get_or xs k 0)) any.3 (all any.0 any.1 any.2))
 
 -- one place more of a group
 pub kept_on : (ways : List Way) (places : List ℕ) (picks : List (List ℕ)) (k place : ℕ) (old now new : List ℕ) → k < length places → place ≡ get_or places k 0 → AreCovered ways old places picks → Narrows ways old now

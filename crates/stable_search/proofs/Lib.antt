@@ -17,6 +17,7 @@ pub mod PlaceLemmas
 pub mod FixLemmas
 pub mod ReachLemmas
 pub mod RefusalLemmas
+pub mod ChoiceLemmas
 pub mod CombineLemmas
 pub mod AmongLemmas
 pub mod WholeLemmas

@@ -323,7 +323,7 @@ full_on ways from now left place value one rest most old mid same stop leaves na
     (subst (λ (xs : List (List ℕ)). IsFull ways (set left place one) most xs stop) e full))
 
 -- a slice of all that a list has, written back
-pub written : (items new : List ℕ) (n : ℕ) → length new ≡ length items → length items ≡ n → take n (new ++ drop (length new) items) ≡ new
-written items new n size all =
+pub written : {X : Type 0} (items new : List X) (n : ℕ) → length new ≡ length items → length items ≡ n → take n (new ++ drop (length new) items) ≡ new
+written {X} items new n size all =
     let none : drop (length new) items ≡ [] = nil_from_length (drop (length new) items) (omega (arith, length-drop (length new) items, size)) in
-    ap (λ (xs : List ℕ). take n (new ++ xs)) none ∙ take_at new [] n (omega (arith, size, all))
+    ap (λ (xs : List X). take n (new ++ xs)) none ∙ take_at new [] n (omega (arith, size, all))

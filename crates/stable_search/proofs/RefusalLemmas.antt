@@ -13,11 +13,12 @@ use Rattle.stable_search.specs.declared.refusal.SearchError.{SearchError}
 use Rattle.stable_search.specs.declared.refusal.SearchError.TheVariants as refusals
 use Rattle.stable_search.specs.declared.seat.Seat.{Seat}
 use Rattle.stable_search.specs.declared.way.Way.{Way}
-use Rattle.stable_search.specs.Fits.{MayStand, FitsAt, StableIsFitting}
+use Rattle.stable_search.specs.Fits.{MayStand, FitsAt, FitTogether, StableIsFitting}
 use Rattle.stable_search.specs.Groups.{at_places, AreValues, AreRoutersAt, ArePartsOf, ArePlaces, FitsBetween, HasMorePicks, RefusesPlaces}
 use Rattle.stable_search.specs.Picks.{FitsWay}
-use Rattle.stable_search.specs.Refusals.{AreFew, AreSomeRouters, FitTogether, HasMoreChoices, IsPathsRefusal, IsRefusal}
+use Rattle.stable_search.specs.Refusals.{AreFew, AreSomeRouters, HasMoreChoices, IsPathsRefusal, IsRefusal}
 use Rattle.stable_search.specs.Seats.{IsSeat, FitsEnd, FitsBoth, StandsAt, IsWayOf, AreWaysOf}
+use Rattle.stable_search.proofs.ChoiceLemmas.{as_many}
 use Rattle.stable_search.proofs.EveryLemmas.{end_at, one_value, is_router, routers_once, routers_rise}
 use Rattle.stable_search.proofs.PlaceLemmas.{stands, here}
 use Rattle.stable_search.proofs.RelateLemmas.{same_seat}
@@ -211,6 +212,6 @@ pub few_parts : (seats : List Seat) (levels : List ℕ) (groups : List Group) (p
 few_parts seats levels groups parts most of few g d lt =
     let group = stands groups g (omega (arith, lt, of.size)) in
     let part = get_or parts g d in
-    let count = (of.each g group.0 part group.1 (lt, get_or_default parts g part d lt)).count in
+    let count = as_many seats levels group.0 part (of.each g group.0 part group.1 (lt, get_or_default parts g part d lt)) in
     let here_few = here (λ (x : Group). length x.picks ≤ most) groups g group.0 few group.1 in
     omega (arith, count, here_few)

@@ -10,7 +10,7 @@ use Rattle.stable_search.specs.declared.every.Component.{Component}
 use Rattle.stable_search.specs.declared.group.Group.{Group}
 use Rattle.stable_search.specs.declared.seat.Seat.{Seat}
 use Rattle.stable_search.specs.declared.way.Way.{Way}
-use Rattle.stable_search.specs.Every.{HasChoice, HaveChoices, Agree, IsPart, IsEveryStable}
+use Rattle.stable_search.specs.Every.{choices_of, HasChoice, HaveChoices, Agree, IsPart, IsEveryStable}
 use Rattle.stable_search.specs.Fits.{IsFitting, StableIsFitting}
 use Rattle.stable_search.specs.Following.{IsUp}
 use Rattle.stable_search.specs.Groups.{at_places, IsGroup, AreGroups, AreValues, IsLed, IsPartOf, ArePartsOf}
@@ -18,6 +18,7 @@ use Rattle.stable_search.specs.Led.{IsOpen, AreLed}
 use Rattle.stable_search.specs.Picks.{AllSome, FitsWay, IsIn, Solves, Narrows}
 use Rattle.stable_search.specs.Seats.{IsSeat, StandsAt, AreWaysOf}
 use Rattle.stable_search.proofs.AmongLemmas.{among}
+use Rattle.stable_search.proofs.ChoiceLemmas.{as_many}
 use Rattle.stable_search.proofs.CombineLemmas.{AreApart, filled, map_same, same_in}
 use Rattle.stable_search.proofs.EveryLemmas.{Picked, picked, one_value, router_at, is_router, has_paths, low, solves, fitting_by, routers_once, routers_rise, part_has, part_picks, picks_part, is_part, router_in, in_router}
 use Rattle.stable_search.proofs.FollowLemmas.{AreEnds, all_extended, same_everywhere}
@@ -206,7 +207,7 @@ module _ (p : Problem) (is : IsInstance p) (law : StableIsFitting) (seats : List
           | inl up ↦ elim (cases_lt 1 (length group.picks)) [
             | inl several ↦ absurd (both_ways part.follows own (of_part.follows.1 (several, up)))
             | inr few ↦
-                one_of_few part.choices (map stable_paths part.routers) (map full.0 part.routers) (omega (arith, few, of_part.count))
+                one_of_few (choices_of part) (map stable_paths part.routers) (map full.0 part.routers) (omega (arith, few, as_many seats levels group part of_part))
                 (here (HasChoice stable_paths) found.parts g part (has_each stable_paths is_stable) pt) (here (HasChoice full.0) found.parts g part full.1 pt)
           ]
           | inr flat ↦ map_same stable_paths full.0 part.routers (λ u c.
@@ -260,11 +261,11 @@ module _ (p : Problem) (is : IsInstance p) (law : StableIsFitting) (seats : List
       let s = stands seats (get_or group.places 0 0) (let inside = x.inside 0 0 x.some in omega (arith, inside, values.0)) in
       (s.0, s.1, o.routers.each 0 s.0 x.some s.1)
 
-  open_part : (h : ℕ) (group : Group) (part : Component) → StandsAt groups h group → StandsAt found.parts h part → IsOpen levels group → (part.follows ≡ false) × (length part.choices ≢ 1)
+  open_part : (h : ℕ) (group : Group) (part : Component) → StandsAt groups h group → StandsAt found.parts h part → IsOpen levels group → (part.follows ≡ false) × (length (choices_of part) ≢ 1)
   open_part h group part st pt open_is =
       let of_part = of.each h group part st pt in (
         elim (cases_Bool part.follows) [ inl flag ↦ absurd (open_is.0 (of_part.follows.0 flag)) | inr own ↦ own ],
-        λ e. open_is.1 (sym of_part.count ∙ e),
+        λ e. open_is.1 (sym (as_many seats levels group part of_part) ∙ e),
       )
 
   pub every : AllSome now → IsEveryStable p found

@@ -1,23 +1,47 @@
 -- All stable assignments, part by part.
-use Rattle.std.specs.Prelude.{ℕ, ◌≡◌, ◌≢◌, ◌<◌, ◌≤◌, ◌*◌, ◌^◌, ◌↔◌, true, false, if◌then◌else◌, List, [], ◌∷◌, Option, Some, None, length, map, slice_index}
+use Rattle.std.specs.Prelude.{ℕ, ◌≡◌, ◌≢◌, ◌<◌, ◌≤◌, ◌*◌, ◌^◌, ◌↔◌, true, false, if◌then◌else◌, List, [], ◌∷◌, Option, Some, None, length, map, slice_index, slice_index_or}
 use Rattle.std.specs.List.{All, AllPairs, Any, Contains}
 use Rattle.ranked_policy.specs.Plans.{IsRouter}
 use Rattle.stable_paths.specs.Stable.{Problem, IsStable}
 use Rattle.stable_search.specs.declared.every.Component.{Component}
 use Rattle.stable_search.specs.declared.every.Every.{Every}
-use Rattle.stable_search.specs.Refusals.{FitTogether}
+use Rattle.stable_search.specs.Fits.{FitTogether}
+
+-- the paths that a pick stands for: of each router's paths the one at its place
+abbrev pub picked_paths : List (List (List ℕ)) → List ℕ → List (List ℕ)
+picked_paths [] pick = []
+picked_paths (paths ∷ values) [] = []
+picked_paths (paths ∷ values) (place ∷ pick) = slice_index_or paths place [] ∷ picked_paths values pick
+
+-- the choices of a part: the paths of each of its picks
+abbrev pub choices_of : Component → List (List (List ℕ))
+choices_of part = map (picked_paths part.values) part.picks
+
+-- the path that a choice of the part has for a router, by their places
+abbrev pub IsPathAt : Component → ℕ → ℕ → List ℕ → Type 0
+IsPathAt part choice router path =
+    (choice < length (choices_of part))
+    × (router < length (slice_index_or (choices_of part) choice []))
+    × (path ≡ slice_index_or (slice_index_or (choices_of part) choice []) router [])
+
+-- for each router a place among its paths
+pub record ArePlacesIn (values : List (List (List ℕ))) (pick : List ℕ) : Type 0 where
+  pub size : length pick ≡ length values
+  pub each : (k : ℕ) → k < length values → slice_index pick k < length (slice_index_or values k [])
 
 -- the routers of the part have one of its choices
 abbrev pub HasChoice : (ℕ → List ℕ) → Component → Type 0
-HasChoice paths part = Contains part.choices (map paths part.routers)
+HasChoice paths part = Contains (choices_of part) (map paths part.routers)
 
 -- routers, rising, with choices of a path for each, none listed twice; a part that follows is one router with several
 pub record IsPart (part : Component) : Type 0 where
   pub some : 0 < length part.routers
   pub rising : AllPairs (λ u v. u < v) part.routers
-  pub whole : All (λ choice. length choice ≡ length part.routers) part.choices
-  pub once : AllPairs (λ choice later. choice ≢ later) part.choices
-  pub alone : part.follows ≡ true → (length part.routers ≡ 1) × (1 < length part.choices)
+  pub values : length part.values ≡ length part.routers
+  pub picks : All (ArePlacesIn part.values) part.picks
+  pub whole : All (λ choice. length choice ≡ length part.routers) (choices_of part)
+  pub once : AllPairs (λ choice later. choice ≢ later) (choices_of part)
+  pub alone : part.follows ≡ true → (length part.routers ≡ 1) × (1 < length (choices_of part))
 
 -- the parts that don't follow have one of their choices
 abbrev pub HaveChoices : (ℕ → List ℕ) → List Component → Type 0
@@ -55,13 +79,13 @@ pub record IsEveryStable (p : Problem) (every : Every) : Type 0 where
   pub order : AllPairs (λ part later. slice_index part.routers 0 < slice_index later.routers 0) every.parts
   -- a part follows only where one that doesn't has no choice or several
   pub needed : Any (λ part. part.follows ≡ true) every.parts
-      → Any (λ part. (part.follows ≡ false) × (length part.choices ≢ 1)) every.parts
+      → Any (λ part. (part.follows ≡ false) × (length (choices_of part) ≢ 1)) every.parts
   -- where none is stable too
   pub among : ChooseAmong p every.parts
 
 -- the number of choices of a part; 1 if it follows
 abbrev pub factor_of : Component → ℕ
-factor_of part = if part.follows then 1 else length part.choices
+factor_of part = if part.follows then 1 else length (choices_of part)
 
 -- the product of the numbers of choices of the parts that don't follow
 abbrev pub number_of : List Component → ℕ

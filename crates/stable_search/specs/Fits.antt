@@ -1,5 +1,6 @@
 -- Stable assignments as a relation of two over each link (Griffin, Shepherd and Wilfong 2002, section 2).
 use Rattle.std.specs.Prelude.{ℕ, ◌≡◌, ◌≢◌, ◌↔◌, List, [], ◌∷◌}
+use Rattle.std.specs.List.{Contains}
 use mathlib.Core.Logic.{◌⊎◌}
 use Rattle.prefix_lanes.specs.Bits.{PrefixView}
 use Rattle.ranked_policy.specs.declared.network.Link.{Link}
@@ -38,6 +39,18 @@ pub record FitsPeers (p : Problem) (paths : ℕ → List ℕ) (table : Table) : 
 abbrev pub IsFitting : Problem → (ℕ → List ℕ) → Type 0
 IsFitting p paths = (u : ℕ) → IsRouter p.net.routers u → (table : Table) × IsTableOf p.net u table
     × FitsPeers p paths table
+
+-- the router of a table has what it may have, and it fits what each peer among these routers has; an origin fits all
+pub record FitsAmong (p : Problem) (routers : List ℕ) (paths : ℕ → List ℕ) (table : Table) : Type 0 where
+  pub may : MayStand p.net.links p.prefix table (paths table.router)
+  pub fits : (v : ℕ) → Contains routers v → Linked p.net.links table.router v → (Originates table p.prefix table.router → ⊥)
+      → FitsAt table p.prefix v (paths table.router) (paths v)
+
+-- each of these routers has what it may have, and it fits what its peers among them have; nothing is asked of other
+-- routers
+abbrev pub FitTogether : Problem → List ℕ → (ℕ → List ℕ) → Type 0
+FitTogether p routers paths =
+    (u : ℕ) → Contains routers u → (table : Table) × IsTableOf p.net u table × FitsAmong p routers paths table
 
 -- if the prefix is originated, the stable assignments are those that fit
 abbrev pub StableIsFitting : Type 0

@@ -90,6 +90,12 @@ pub record AreRoutersAt (seats : List Seat) (places routers : List ℕ) : Type 0
   pub each : (k : ℕ) (seat : Seat) → k < length places → StandsAt seats (slice_index places k) seat
       → slice_index routers k ≡ seat.router
 
+-- the values of the seats at these places
+pub record AreValuesAt (seats : List Seat) (places : List ℕ) (values : List (List (List ℕ))) : Type 0 where
+  pub size : length values ≡ length places
+  pub each : (k : ℕ) (seat : Seat) → k < length places → StandsAt seats (slice_index places k) seat
+      → slice_index_or values k [] ≡ seat.values.items
+
 -- a group of a place that follows others and has several values
 abbrev pub IsLed : List ℕ → Group → Type 0
 IsLed levels group = (1 < length group.picks) × (0 < slice_index levels (slice_index group.places 0))
@@ -97,9 +103,8 @@ IsLed levels group = (1 < length group.picks) × (0 < slice_index levels (slice_
 -- the part of a group
 pub record IsPartOf (seats : List Seat) (levels : List ℕ) (group : Group) (part : Component) : Type 0 where
   pub routers : AreRoutersAt seats group.places part.routers
-  pub count : length part.choices ≡ length group.picks
-  pub shown : (j : ℕ) → j < length group.picks
-      → IsShown seats group.places (slice_index_or group.picks j []) (slice_index_or part.choices j [])
+  pub values : AreValuesAt seats group.places part.values
+  pub picks : part.picks ≡ group.picks
   pub follows : IsTrue part.follows ↔ IsLed levels group
 
 pub record ArePartsOf (seats : List Seat) (levels : List ℕ) (groups : List Group) (parts : List Component) : Type 0 where

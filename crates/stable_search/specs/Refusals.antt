@@ -8,29 +8,18 @@ use Rattle.stable_search.specs.declared.every.Component.{Component}
 use Rattle.stable_search.specs.declared.limits.SearchLimits.{SearchLimits}
 use Rattle.stable_search.specs.declared.refusal.SearchError.{SearchError}
 use Rattle.stable_search.specs.declared.refusal.SearchError.TheVariants as refusals
-use Rattle.stable_search.specs.Fits.{MayStand, FitsAt}
+use Rattle.stable_search.specs.Every.{choices_of}
+use Rattle.stable_search.specs.Fits.{MayStand, FitTogether}
 
 -- no part has more choices than so many
 abbrev pub AreFew : ℕ → List Component → Type 0
-AreFew most parts = All (λ part. length part.choices ≤ most) parts
+AreFew most parts = All (λ part. length (choices_of part) ≤ most) parts
 
 -- routers of the problem, rising, at least one
 pub record AreSomeRouters (p : Problem) (routers : List ℕ) : Type 0 where
   pub some : 0 < length routers
   pub rising : AllPairs (λ u v. u < v) routers
   pub known : All (IsRouter p.net.routers) routers
-
--- the router of a table has what it may have, and it fits what each peer among these routers has; an origin fits all
-pub record FitsAmong (p : Problem) (routers : List ℕ) (paths : ℕ → List ℕ) (table : Table) : Type 0 where
-  pub may : MayStand p.net.links p.prefix table (paths table.router)
-  pub fits : (v : ℕ) → Contains routers v → Linked p.net.links table.router v → (Originates table p.prefix table.router → ⊥)
-      → FitsAt table p.prefix v (paths table.router) (paths v)
-
--- each of these routers has what it may have, and it fits what its peers among them have; nothing is asked of other
--- routers
-abbrev pub FitTogether : Problem → List ℕ → (ℕ → List ℕ) → Type 0
-FitTogether p routers paths =
-    (u : ℕ) → Contains routers u → (table : Table) × IsTableOf p.net u table × FitsAmong p routers paths table
 
 -- more than so many choices of a path for each of these routers; the paths of a choice fit together, and no choice is
 -- listed twice

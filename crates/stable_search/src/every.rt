@@ -1,7 +1,7 @@
 //! All stable assignments.
 
-ghost use Rattle.std.specs.Prelude.{◌≡◌, ◌<◌, ◌*◌, ℕ};
-ghost use Rattle.stable_search.specs.Every.{factor_of, number_of, IsCount};
+ghost use Rattle.std.specs.Prelude.{◌≡◌, ◌<◌, ◌*◌, ℕ, IfSome, IsSome, length};
+ghost use Rattle.stable_search.specs.Every.{choices_of, factor_of, number_of, IsCount, IsPart, IsPathAt};
 
 use ranked_policy::{Asn, NetItems, Path};
 
@@ -10,11 +10,36 @@ use ranked_policy::{Asn, NetItems, Path};
 pub struct Component {
     /// The routers, by rising number.
     pub routers: NetItems<Asn>,
-    /// Their choices: each has a path for every router of the part, in the order of the routers.
-    pub choices: NetItems<NetItems<Path>>,
+    /// The paths of each of them, in the order of the routers.
+    pub values: NetItems<NetItems<Path>>,
+    /// Their choices: each has for every router of the part the place of its path among the router's paths, in the order
+    /// of the routers.
+    pub picks: NetItems<NetItems<u8>>,
     /// Whether it is one router that follows: which of its paths it has depends on the choices of parts that don't
     /// follow, and none of these on its path.
     pub follows: bool,
+}
+
+impl Component {
+    /// How many choices the part has.
+    pub fn choice_count(&self) -> usize
+        ensures { result ≡ length (choices_of self.now) }
+    {
+        self.picks.len()
+    }
+
+    /// The path that a choice has for a router: the choice and the router are named by their places, from 0. `None`
+    /// exactly where the part, as a search answers it, has no such choice or no such router.
+    pub fn path(&self, choice: usize, router: usize) -> Option<&Path>
+        ensures path { IfSome result (λ path. IsPathAt self.now choice router path.now) }
+        ensures some { IsPart self.now → choice < length (choices_of self.now) → router < length self.now.routers
+            → IsSome result }
+    {
+        let pick = self.picks.as_slice().get(choice)?;
+        let place = pick.as_slice().get(router)?;
+        let paths = self.values.as_slice().get(router)?;
+        paths.as_slice().get(usize::from(*place))
+    }
 }
 
 /// All stable assignments of an instance: to any combination of one choice from each part that doesn't follow belongs
@@ -50,7 +75,7 @@ fn factor(part: &Component) -> u64
     if part.follows {
         1
     } else {
-        part.choices.len() as u64
+        part.choice_count() as u64
     }
 }
 

@@ -13,8 +13,8 @@ ghost use Rattle.stable_search.specs.declared.way.Way.{Way};
 use crate::following::{levels_of, no_levels};
 use crate::keeping::keep_seen;
 use crate::limits::SearchLimits;
-use crate::narrowing::{all_some, narrow_some};
-use crate::parting::{all_values_at, labels_of, places_with, sets_with, ways_with};
+use crate::narrowing::narrow_some;
+use crate::parting::{keep_values_at, labels_of, places_with, sets_with, ways_with};
 use crate::refusal::SearchError;
 use crate::sampling::keep_possible;
 use crate::searching::search;
@@ -30,7 +30,7 @@ pub(crate) struct Group {
     /// The places.
     pub(crate) places: NetItems<usize>,
     /// The picks: each has a value for every place, in the order of the places.
-    pub(crate) picks: NetItems<NetItems<usize>>,
+    pub(crate) picks: NetItems<NetItems<u8>>,
 }
 
 /// The refusal of a search that stopped, with the routers at the places that were searched.
@@ -56,7 +56,7 @@ fn searched(
     ways: &[Way],
     sets: Vec<u64>,
     limits: &SearchLimits,
-) -> Result<Vec<NetItems<usize>>, SearchError>
+) -> Result<Vec<NetItems<u8>>, SearchError>
     requires within { AreWithin (length sets.items) ways.now }
     requires places { All (λ place. place < length seats.now) places.now }
     ensures all { IfOk result (λ found. AreAll ways.now sets.items found.items) }
@@ -103,7 +103,7 @@ fn group_of(
 {
     let part_ways = ways_with(alloc, ways, labels, label)?;
     let part_sets = sets_with(alloc, sets, labels, label)?;
-    let found = searched(
+    let mut picks = searched(
         alloc,
         seats,
         places.as_slice(),
@@ -111,10 +111,10 @@ fn group_of(
         part_sets,
         limits,
     )?;
-    let picks = all_values_at(alloc, found.as_slice(), places.as_slice())?;
+    keep_values_at(alloc, picks.as_mut_slice(), places.as_slice())?;
     Ok(Group {
         places: NetItems::from_vec(places),
-        picks,
+        picks: NetItems::from_vec(picks),
     })
 }
 
@@ -144,10 +144,11 @@ fn groups_of(
 }
 
 // Removes from the sets of each group's places the values that none of the group's picks has, and answers whether there
-// were any. The sets of a group without a pick stay.
+// were any. A set of which none is left stays.
 fn keep_picked(groups: &[Group], sets: &mut [u64]) -> bool
     requires { All (IsGroup sets.old) groups.now }
-    ensures { (ways : List Way) → AreGroups ways sets.old groups.now → Narrows ways sets.old sets.new }
+    ensures narrows { (ways : List Way) → AreGroups ways sets.old groups.now → Narrows ways sets.old sets.new }
+    ensures some { AllSome sets.old → AllSome sets.new }
 {
     let mut some = false;
     for group in groups {
@@ -156,41 +157,42 @@ fn keep_picked(groups: &[Group], sets: &mut [u64]) -> bool
     some
 }
 
-// The groups of places that bear on each other, if no value can be removed that none of their picks has. Else the sets are
-// without such values. Where a group has too many picks for a list, only so many of them are
-// found that this is known.
-fn first_groups(
-    alloc: Global,
-    seats: &[Seat],
-    ways: &[Way],
-    sets: &mut [u64],
-    limits: &SearchLimits,
-) -> Result<Option<Vec<Group>>, SearchError>
-    requires seats { length seats.now ≡ length sets.old }
-    requires within { AreWithin (length sets.old) ways.now }
-    ensures narrows { OnOk result (Narrows ways.now sets.old sets.new) }
-    ensures found { IfOk result (λ found. IfSome found (λ groups.
-        HaveGroups ways.now sets.old limits.now.most groups.items)) }
-    ensures refused { IfErr result (RefusesPlaces seats.now ways.now sets.old limits.now.most) }
+// Whether each group has a pick.
+fn have_picks(groups: &[Group]) -> bool
+    ensures { IsTrue result ↔ All (λ group. 0 < length group.picks) groups.now }
 {
-    match groups_of(alloc, seats, ways, sets, limits) {
-        Ok(groups) => {
-            if keep_picked(groups.as_slice(), sets) {
-                Ok(None)
-            } else {
-                Ok(Some(groups))
-            }
+    for group in groups {
+        if group.picks.is_empty() {
+            return false;
         }
-        Err(SearchError::TooManyChoices { routers: _ }) => {
-            keep_possible(alloc, seats, ways, sets, limits)?;
-            Ok(None)
-        }
-        Err(why) => Err(why),
     }
+    true
 }
 
-// What `first_groups` finds, unless a set would lose its last value: then the sets stay, and nothing is found.
-fn first_some(
+// Whether each group has exactly one pick.
+fn have_one_pick(groups: &[Group]) -> bool
+    ensures { IsTrue result ↔ All (λ group. length group.picks ≡ 1) groups.now }
+{
+    for group in groups {
+        if group.picks.len() != 1 {
+            return false;
+        }
+    }
+    true
+}
+
+// Whether each group has a pick, and not each just one. Then some group of the places that follow none has several too.
+fn have_several(groups: &[Group]) -> bool
+    ensures { IsTrue result ↔ All (λ group. 0 < length group.picks) groups.now
+        × (All (λ group. length group.picks ≡ 1) groups.now → ⊥) }
+{
+    have_picks(groups) && !have_one_pick(groups)
+}
+
+// The groups of places that bear on each other, if no value can be removed that none of their picks has. Else the sets are
+// without such values. Where a group has too many picks for a list, only so many of them are found that this is known.
+// Groups that have several picks are let go, since those of the places that follow none are the answer.
+fn first_groups(
     alloc: Global,
     seats: &[Seat],
     ways: &[Way],
@@ -205,13 +207,20 @@ fn first_some(
         HaveGroups ways.now sets.old limits.now.most groups.items)) }
     ensures refused { IfErr result (RefusesPlaces seats.now ways.now sets.old limits.now.most) }
 {
-    let mut left = Vec::from_slice(alloc, sets)?;
-    let first = first_groups(alloc, seats, ways, left.as_mut_slice(), limits)?;
-    if !all_some(left.as_slice()) {
-        return Ok(None);
+    match groups_of(alloc, seats, ways, sets, limits) {
+        Ok(groups) => {
+            if keep_picked(groups.as_slice(), sets) || have_several(groups.as_slice()) {
+                Ok(None)
+            } else {
+                Ok(Some(groups))
+            }
+        }
+        Err(SearchError::TooManyChoices { routers: _ }) => {
+            keep_possible(alloc, seats, ways, sets, limits)?;
+            Ok(None)
+        }
+        Err(why) => Err(why),
     }
-    sets.copy_from_slice(left.as_slice());
-    Ok(first)
 }
 
 /// Places in groups.
@@ -296,7 +305,7 @@ pub(crate) fn groups(
 {
     narrow_some(alloc, ways, sets)?;
     let levels = levels_of(alloc, seats, ways, sets)?;
-    let first = first_some(alloc, seats, ways, sets, limits)?;
+    let first = first_groups(alloc, seats, ways, sets, limits)?;
     if let Some(groups) = led_groups(alloc, seats, ways, sets, levels.as_slice(), limits)? {
         return Ok(Grouping { groups, levels });
     }

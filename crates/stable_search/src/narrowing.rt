@@ -98,15 +98,15 @@ pub(crate) fn narrow_all(ways: &[Way], sets: &mut [u64], marks: u64)
     }
 }
 
-// Whether a set has a value.
-fn has_some(set: u64) -> bool
+/// Whether a set has a value.
+pub(crate) fn has_some(set: u64) -> bool
     ensures { IsTrue result → (value : ℕ) × Has set value }
 {
     set != 0
 }
 
-/// Whether each set has a value.
-pub(crate) fn all_some(sets: &[u64]) -> bool
+// Whether each set has a value.
+fn all_some(sets: &[u64]) -> bool
     ensures { IsTrue result → AllSome sets.now }
 {
     for set in sets {

@@ -1,7 +1,7 @@
 //! Which places bear on each other.
 
 ghost use Rattle.std.specs.Prelude.{◌≡◌, ◌≢◌, ◌↔◌, ◌<◌, ◌==◌, ℕ, List, IsTrue};
-ghost use Rattle.std.specs.Prelude.{IfOk, length, map, slice_index, true, if◌then◌else◌};
+ghost use Rattle.std.specs.Prelude.{IfOk, OnOk, length, map, slice_index, true, if◌then◌else◌};
 ghost use Rattle.std.specs.List.{All, AllPairs, Contains};
 ghost use Rattle.stable_search.specs.Groups.{at_places};
 ghost use Rattle.stable_search.specs.Parting.{IsFree, Joins, AreLabels, InPart, KeepsPart, AreCopies, IsPartSets};
@@ -166,7 +166,7 @@ pub(crate) fn sets_with(
 }
 
 // The values that a pick has at these places.
-fn values_at(alloc: Global, pick: &[usize], places: &[usize]) -> Result<NetItems<usize>, AllocError>
+fn values_at(alloc: Global, pick: &[u8], places: &[usize]) -> Result<NetItems<u8>, AllocError>
     requires { All (λ place. place < length pick.now) places.now }
     ensures { IfOk result (λ values. values ≡ at_places pick.now places.now) }
 {
@@ -177,18 +177,17 @@ fn values_at(alloc: Global, pick: &[usize], places: &[usize]) -> Result<NetItems
     Ok(NetItems::from_vec(values))
 }
 
-/// The values that each pick has at these places.
-pub(crate) fn all_values_at(
+/// Leaves of each pick the values at these places. If memory is refused, some picks are whole still.
+pub(crate) fn keep_values_at(
     alloc: Global,
-    picks: &[NetItems<usize>],
+    picks: &mut [NetItems<u8>],
     places: &[usize],
-) -> Result<NetItems<NetItems<usize>>, AllocError>
-    requires { All (λ pick. All (λ place. place < length pick) places.now) picks.now }
-    ensures { IfOk result (λ values. values ≡ map (λ pick. at_places pick places.now) picks.now) }
+) -> Result<(), AllocError>
+    requires { All (λ pick. All (λ place. place < length pick) places.now) picks.old }
+    ensures { OnOk result (picks.new ≡ map (λ pick. at_places pick places.now) picks.old) }
 {
-    let mut values = Vec::with_capacity(alloc, picks.len())?;
-    for pick in picks {
-        values.push(values_at(alloc, pick.as_slice(), places)?)?;
+    for pick in picks.iter_mut() {
+        *pick = values_at(alloc, pick.as_slice(), places)?;
     }
-    Ok(NetItems::from_vec(values))
+    Ok(())
 }

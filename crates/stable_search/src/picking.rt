@@ -9,7 +9,7 @@ use ranked_policy::NetItems;
 use std::alloc::{AllocError, Global};
 
 /// The only value of a set, if it has exactly one.
-pub(crate) fn only_value(set: u64) -> Option<usize>
+pub(crate) fn only_value(set: u64) -> Option<u8>
     ensures { IfSome result (IsOnly set) }
 {
     if set == 0 {
@@ -17,14 +17,14 @@ pub(crate) fn only_value(set: u64) -> Option<usize>
     }
     let value = set.trailing_zeros();
     if set & !(1 << value) == 0 {
-        Some(value as usize)
+        Some(value as u8)
     } else {
         None
     }
 }
 
 /// The pick of the only value of each set, if each has exactly one.
-pub(crate) fn only_pick(alloc: Global, sets: &[u64]) -> Result<Option<NetItems<usize>>, AllocError>
+pub(crate) fn only_pick(alloc: Global, sets: &[u64]) -> Result<Option<NetItems<u8>>, AllocError>
     ensures { IfOk result (λ found. MatchOption found (0 < length sets.now) (IsOnlyPick sets.now)) }
 {
     let mut pick = Vec::with_capacity(alloc, sets.len())?;
@@ -38,19 +38,19 @@ pub(crate) fn only_pick(alloc: Global, sets: &[u64]) -> Result<Option<NetItems<u
 }
 
 // Whether the values that a pick has at two places fit.
-fn fits_way(way: &Way, pick: &[usize]) -> bool
+fn fits_way(way: &Way, pick: &[u8]) -> bool
     requires within { IsWithin (length pick.now) way.now }
     requires low { All (λ value. value < 64) pick.now }
     ensures { IsTrue result ↔ FitsWay pick.now way.now }
 {
-    match way.fits.get(pick[way.from]) {
+    match way.fits.get(usize::from(pick[way.from])) {
         Some(fitting) => (*fitting >> pick[way.to]) & 1 == 1,
         None => false,
     }
 }
 
 /// Whether the values of a pick fit over all the ways.
-pub(crate) fn fits_all(ways: &[Way], pick: &[usize]) -> bool
+pub(crate) fn fits_all(ways: &[Way], pick: &[u8]) -> bool
     requires within { AreWithin (length pick.now) ways.now }
     requires low { All (λ value. value < 64) pick.now }
     ensures { IsTrue result ↔ All (FitsWay pick.now) ways.now }

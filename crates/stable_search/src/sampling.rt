@@ -3,7 +3,7 @@
 ghost use Rattle.std.specs.Prelude.{◌≡◌, ◌≢◌, ◌↔◌, ◌<◌, ◌⊎◌, ℕ, List, IfOk, IfErr, OnOk, length, slice_index};
 ghost use Rattle.std.specs.List.{All, AllPairs, Contains};
 ghost use Rattle.stable_search.specs.Groups.{RefusesPlaces};
-ghost use Rattle.stable_search.specs.Picks.{Has, AreWithin, Solves, Narrows, MarksMore, Sees, SeesAll};
+ghost use Rattle.stable_search.specs.Picks.{Has, AllSome, AreWithin, Solves, Narrows, MarksMore, Sees, SeesAll};
 ghost use Rattle.stable_search.specs.declared.stop.Stop.TheVariants.{TooManyChoices};
 
 use crate::group::refusal;
@@ -20,7 +20,7 @@ use ranked_policy::NetItems;
 use std::alloc::{AllocError, Global};
 
 // Marks the value of each place that a pick has.
-fn mark_pick(pick: &[usize], seen: &mut [u64])
+fn mark_pick(pick: &[u8], seen: &mut [u64])
     ensures { MarksMore seen.old seen.new }
 {
     for (place, value) in pick.iter().enumerate() {
@@ -61,7 +61,7 @@ fn try_value(
 {
     let mut one = Vec::from_slice(alloc, sets)?;
     one[place] = 1 << value;
-    let mut found: Vec<NetItems<usize>> = Vec::new(alloc);
+    let mut found: Vec<NetItems<u8>> = Vec::new(alloc);
     match search(alloc, ways, one, mark_of(place), 0, steps, &mut found) {
         Ok(()) => Ok(()),
         Err(Stop::TooManyChoices) => {
@@ -132,7 +132,8 @@ fn seen_values(
     Ok(seen)
 }
 
-// Removes from the sets of the places with a label the values that no pick for them has. Without a pick the sets stay.
+// Removes from the sets of the places with a label the values that no pick for them has. A set of which none is left
+// stays.
 fn keep_seen_values(
     alloc: Global,
     seats: &[Seat],
@@ -151,6 +152,7 @@ fn keep_seen_values(
     requires rising { AllPairs (λ place later. place < later) places.now }
     requires some { 0 < length places.now }
     ensures narrows { OnOk result (Narrows ways.now sets.old sets.new) }
+    ensures some { OnOk result (AllSome sets.old → AllSome sets.new) }
     ensures refused { IfErr result (RefusesPlaces seats.now ways.now sets.old limits.now.most) }
 {
     let part_ways = ways_with(alloc, ways, labels, label)?;
@@ -171,8 +173,8 @@ fn keep_seen_values(
     }
 }
 
-/// Removes from the sets the values that no pick has for the places that bear on each other. Where there is no pick for
-/// such places, their sets stay.
+/// Removes from the sets the values that no pick has for the places that bear on each other. A set of which none is left
+/// stays.
 pub(crate) fn keep_possible(
     alloc: Global,
     seats: &[Seat],
@@ -183,6 +185,7 @@ pub(crate) fn keep_possible(
     requires seats { length seats.now ≡ length sets.old }
     requires within { AreWithin (length sets.old) ways.now }
     ensures narrows { OnOk result (Narrows ways.now sets.old sets.new) }
+    ensures some { OnOk result (AllSome sets.old → AllSome sets.new) }
     ensures refused { IfErr result (RefusesPlaces seats.now ways.now sets.old limits.now.most) }
 {
     let all_labels = labels_of(alloc, ways, sets)?;

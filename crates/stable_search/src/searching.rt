@@ -14,9 +14,9 @@ use std::alloc::Global;
 // Adds a pick if its values fit. One that is too many is added too.
 fn add_fitting(
     ways: &[Way],
-    pick: NetItems<usize>,
+    pick: NetItems<u8>,
     most: usize,
-    found: &mut Vec<NetItems<usize>>,
+    found: &mut Vec<NetItems<u8>>,
 ) -> Result<(), Stop>
     requires within { AreWithin (length pick) ways.now }
     requires low { All (λ value. value < 64) pick }
@@ -47,7 +47,7 @@ fn settle(
     sets: &mut [u64],
     marks: u64,
     most: usize,
-    found: &mut Vec<NetItems<usize>>,
+    found: &mut Vec<NetItems<u8>>,
 ) -> Result<Option<usize>, Stop>
     requires { AreWithin (length sets.old) ways.now }
     ensures next { IfOk result (λ next. MatchOption next
@@ -79,7 +79,7 @@ pub(crate) fn search(
     marks: u64,
     most: usize,
     steps: &mut u64,
-    found: &mut Vec<NetItems<usize>>,
+    found: &mut Vec<NetItems<u8>>,
 ) -> Result<(), Stop>
     requires { AreWithin (length sets.items) ways.now }
     ensures steps { steps.new ≤ steps.old }

@@ -1,14 +1,13 @@
 //! The search for all stable assignments.
 
-ghost use Rattle.std.specs.Prelude.{◌≡◌, ◌↔◌, ◌<◌, ◌≤◌, ℕ, List, [], IfOk, IfErr, length, slice_index, slice_index_or, map};
+ghost use Rattle.std.specs.Prelude.{◌≡◌, ◌↔◌, ◌<◌, ◌≤◌, ℕ, List, IfOk, IfErr, length, map};
 ghost use Rattle.std.specs.List.{All};
 ghost use Rattle.ranked_policy.specs.Plans.{numbers};
 ghost use Rattle.stable_search.specs.Every.{IsEveryStable};
-ghost use Rattle.stable_search.specs.Groups.{IsShown, IsPartOf, ArePartsOf, IsGroup, AreValues};
+ghost use Rattle.stable_search.specs.Groups.{IsPartOf, ArePartsOf, IsGroup, AreValues, AreValuesAt};
 ghost use Rattle.stable_search.specs.Picks.{Has};
 ghost use Rattle.stable_search.specs.Refusals.{AreFew, IsPathsRefusal, IsRefusal};
-ghost use Rattle.stable_search.specs.Seats.{StandsAt, IsSeat};
-ghost use Rattle.stable_search.specs.declared.seat.Seat.{Seat};
+ghost use Rattle.stable_search.specs.Seats.{IsSeat};
 
 use crate::chooser::choosers;
 use crate::distance::distances;
@@ -26,25 +25,31 @@ use ranked_policy::{NetItems, Path};
 use stable_paths::Instance;
 use std::alloc::{AllocError, Global};
 
-// The paths that the values of a pick stand for.
-fn shown(
+// A copy of paths.
+fn copied(alloc: Global, paths: &[Path]) -> Result<NetItems<Path>, AllocError>
+    ensures { IfOk result (λ copy. copy ≡ paths.now) }
+{
+    let mut copy = Vec::with_capacity(alloc, paths.len())?;
+    for path in paths {
+        copy.push(Path::from_slice(alloc, path.as_slice())?)?;
+    }
+    Ok(NetItems::from_vec(copy))
+}
+
+// The paths that the routers at these places may have.
+fn values_at(
     alloc: Global,
     seats: &[Seat],
     places: &[usize],
-    pick: &[usize],
-) -> Result<NetItems<Path>, AllocError>
-    requires inside { All (λ place. place < length seats.now) places.now }
-    requires size { length pick.now ≡ length places.now }
-    requires values { (k : ℕ) (seat : Seat) → k < length places.now
-        → StandsAt seats.now (slice_index places.now k) seat → slice_index pick.now k < length seat.values.items }
-    ensures { IfOk result (IsShown seats.now places.now pick.now) }
+) -> Result<NetItems<NetItems<Path>>, AllocError>
+    requires { All (λ place. place < length seats.now) places.now }
+    ensures { IfOk result (AreValuesAt seats.now places.now) }
 {
-    let mut choice = Vec::with_capacity(alloc, places.len())?;
-    for (k, place) in places.iter().enumerate() {
-        let path = &seats[*place].values[pick[k]];
-        choice.push(Path::from_slice(alloc, path.as_slice())?)?;
+    let mut values = Vec::with_capacity(alloc, places.len())?;
+    for place in places {
+        values.push(copied(alloc, seats[*place].values.as_slice())?)?;
     }
-    Ok(NetItems::from_vec(choice))
+    Ok(NetItems::from_vec(values))
 }
 
 // The set of the first `count` values.
@@ -71,27 +76,26 @@ fn all_values(alloc: Global, seats: &[Seat]) -> Result<Vec<u64>, AllocError>
     Ok(sets)
 }
 
-// The part of a group.
+// The part of a group, with its picks.
 fn part_of(
     alloc: Global,
     seats: &[Seat],
     levels: &[usize],
-    group: &Group,
+    group: Group,
 ) -> Result<Component, AllocError>
     requires size { length levels.now ≡ length seats.now }
-    requires group { (sets : List ℕ) × AreValues seats.now sets × IsGroup sets group.now }
-    ensures { IfOk result (IsPartOf seats.now levels.now group.now) }
+    requires group { (sets : List ℕ) × AreValues seats.now sets × IsGroup sets group }
+    ensures { IfOk result (IsPartOf seats.now levels.now group) }
 {
+    let follows = is_led(&group, levels);
     let places = group.places.as_slice();
-    let mut choices = Vec::with_capacity(alloc, group.picks.len())?;
-    for pick in group.picks.as_slice() {
-        choices.push(shown(alloc, seats, places, pick.as_slice())?)?;
-    }
     let routers = routers_at(alloc, seats, places)?;
+    let values = values_at(alloc, seats, places)?;
     Ok(Component {
         routers,
-        choices: NetItems::from_vec(choices),
-        follows: is_led(group, levels),
+        values,
+        picks: group.picks,
+        follows,
     })
 }
 
@@ -100,11 +104,11 @@ fn parts_of(
     alloc: Global,
     seats: &[Seat],
     levels: &[usize],
-    groups: &[Group],
+    groups: Vec<Group>,
 ) -> Result<NetItems<Component>, AllocError>
     requires size { length levels.now ≡ length seats.now }
-    requires groups { (sets : List ℕ) × AreValues seats.now sets × All (IsGroup sets) groups.now }
-    ensures { IfOk result (ArePartsOf seats.now levels.now groups.now) }
+    requires groups { (sets : List ℕ) × AreValues seats.now sets × All (IsGroup sets) groups.items }
+    ensures { IfOk result (ArePartsOf seats.now levels.now groups.items) }
 {
     let mut parts = Vec::with_capacity(alloc, groups.len())?;
     for group in groups {
@@ -162,7 +166,7 @@ pub fn stable_assignments(
         sets.as_mut_slice(),
         limits,
     )?;
-    let levels = grouping.levels.as_slice();
-    let parts = parts_of(alloc, seats.as_slice(), levels, grouping.groups.as_slice())?;
+    let levels = grouping.levels;
+    let parts = parts_of(alloc, seats.as_slice(), levels.as_slice(), grouping.groups)?;
     Ok(Every { parts })
 }

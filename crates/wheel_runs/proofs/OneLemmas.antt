@@ -9,7 +9,7 @@ use Rattle.ranked_policy.specs.Plans.{IsRouter}
 use Rattle.stable_paths.specs.Stable.{Problem, IsStable}
 use Rattle.stable_search.specs.declared.every.Component.{Component}
 use Rattle.stable_search.specs.declared.every.Every.{Every}
-use Rattle.stable_search.specs.Every.{IsEveryStable, factor_of, number_of}
+use Rattle.stable_search.specs.Every.{choices_of, IsEveryStable, factor_of, number_of}
 use Rattle.stable_search.specs.Counting.{what_all_have, leads, AreCounted, StableAreCounted}
 use Rattle.dispute_wheels.specs.Promises.{SafeHaveOneStable}
 use Rattle.wheel_runs.specs.Settling.{SafeHaveOneChoice}
@@ -76,10 +76,10 @@ module _ (p : Problem) (every : Every) (is : IsEveryStable p every) (x : ℕ →
         let here = counted.all x stable in
         omega (arith, at_most_one (length found) refl, here.1, counted.count)
 
-    own_has_one : (i : ℕ) (part : Component) → i < length every.parts → get_or every.parts i part ≡ part → part.follows ≡ false → length part.choices ≡ 1
-    own_has_one i part l at own = factor_is part.follows (length part.choices) own (all_one every.parts one_found i part l at)
+    own_has_one : (i : ℕ) (part : Component) → i < length every.parts → get_or every.parts i part ≡ part → part.follows ≡ false → length (choices_of part) ≡ 1
+    own_has_one i part l at own = factor_is part.follows (length (choices_of part)) own (all_one every.parts one_found i part l at)
 
-    parts_have_one : All (λ part. length part.choices ≡ 1) every.parts
+    parts_have_one : All (λ part. length (choices_of part) ≡ 1) every.parts
     parts_have_one i d l =
         let part = get_or every.parts i d in
         let at = get_or_default every.parts i part d l in

@@ -7,7 +7,7 @@ use Rattle.ranked_policy.specs.Plans.{IsRouter}
 use Rattle.stable_paths.specs.Stable.{Problem, IsInstance, IsStable}
 use Rattle.dispute_wheels.specs.Promises.{IsSafe}
 use Rattle.stable_search.specs.declared.every.Every.{Every}
-use Rattle.stable_search.specs.Every.{IsEveryStable}
+use Rattle.stable_search.specs.Every.{choices_of, IsEveryStable}
 use Rattle.run_model.specs.Offers.{Settled}
 use Rattle.snap_marker.specs.Recordings.{RouterPart}
 use Rattle.router_model.specs.Settings.{Setting, IsSetting, names}
@@ -19,7 +19,7 @@ use Rattle.wheel_runs.specs.Changes.{problem_of}
 abbrev pub SafeHaveOneChoice : Type 0
 SafeHaveOneChoice =
     (p : Problem) → IsInstance p → IsSafe p → (every : Every) → IsEveryStable p every
-    → All (λ part. length part.choices ≡ 1) every.parts
+    → All (λ part. length (choices_of part) ≡ 1) every.parts
 
 -- of a prefix without a dispute wheel, the paths of a settled snapshot are those of the one stable assignment, if the
 -- origin's part originates the prefix

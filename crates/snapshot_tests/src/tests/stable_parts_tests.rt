@@ -54,7 +54,7 @@ fn are_parts(every: &Every, parts: &[(&[Asn], usize, bool)]) -> bool {
     }
     for (part, wanted) in every.parts.as_slice().iter().zip(parts) {
         if part.routers.as_slice() != wanted.0
-            || part.choices.len() != wanted.1
+            || part.choice_count() != wanted.1
             || part.follows != wanted.2
         {
             return false;

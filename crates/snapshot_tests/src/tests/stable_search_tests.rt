@@ -173,18 +173,19 @@ fn is_path(assignment: &Assignment, router: Asn, path: &Path) -> bool {
     assignment.path(router) == path.as_slice()
 }
 
-fn has_paths(part: &Component, choice: &[Path], assignment: &Assignment) -> bool {
-    for (router, path) in part.routers.as_slice().iter().zip(choice) {
-        if !is_path(assignment, *router, path) {
-            return false;
+fn has_paths(part: &Component, choice: usize, assignment: &Assignment) -> bool {
+    for (place, router) in part.routers.as_slice().iter().enumerate() {
+        match part.path(choice, place) {
+            Some(path) if is_path(assignment, *router, path) => {}
+            _ => return false,
         }
     }
     true
 }
 
 fn has_choice(part: &Component, assignment: &Assignment) -> bool {
-    for choice in part.choices.as_slice() {
-        if has_paths(part, choice.as_slice(), assignment) {
+    for choice in 0..part.choice_count() {
+        if has_paths(part, choice, assignment) {
             return true;
         }
     }
@@ -264,12 +265,12 @@ fn finds(rt: &impl Abort, alloc: Global, plan: &Plan, stable: u64) -> Result<(),
 
 // Whether the first choice of a part gives the router these numbers.
 fn gives(part: &Component, router: Asn, numbers: &[Asn]) -> bool {
-    let Some(choice) = part.choices.as_slice().first() else {
-        return false;
-    };
-    for (other, path) in part.routers.as_slice().iter().zip(choice.as_slice()) {
-        if *other == router && path.as_slice() == numbers {
-            return true;
+    for (place, other) in part.routers.as_slice().iter().enumerate() {
+        if *other == router {
+            return match part.path(0, place) {
+                Some(path) => path.as_slice() == numbers,
+                None => false,
+            };
         }
     }
     false

@@ -6,7 +6,7 @@ use Rattle.stable_search.proofs.NarrowLemmas.{narrows_start}
 use Rattle.stable_search.proofs.group.keep_picked.Goals as goal
 
 pub loop-group-init : goal.loop-group-init
-loop-group-init c = (refl, λ ways are. narrows_start ways c.args.sets.now)
+loop-group-init c = (refl, (λ ways are. narrows_start ways c.args.sets.now), λ all. all)
 
 pub keep_seen-some-requires-clause-inside : goal.keep_seen-some-requires-clause-inside
 keep_seen-some-requires-clause-inside c =
@@ -24,7 +24,8 @@ loop-group-preserved c =
     let g = c.group-item.result in
     let now = c.loop-group.sets in (
       c.keep_seen-some.auto.sets ∙ c.loop-group.invariant.0,
-      λ ways are. picked_on ways c.args.groups.now c.loop-group.group-index g c.args.sets.now now c.keep_seen-some.new.sets c.loop-group-test.true c.group-item.is are (c.loop-group.invariant.1 ways are)
-          (λ covered. c.keep_seen-some.ensures ways
-          (subst (λ (ps : List ℕ). AreCovered ways now ps c.as_slice-in-loop-group.result.now) (sym c.as_slice.ensures) (subst (AreCovered ways now g.places) (sym c.as_slice-in-loop-group.ensures) covered))),
+      (λ ways are. picked_on ways c.args.groups.now c.loop-group.group-index g c.args.sets.now now c.keep_seen-some.new.sets c.loop-group-test.true c.group-item.is are (c.loop-group.invariant.1 ways are)
+          (λ covered. c.keep_seen-some.ensures.narrows ways
+          (subst (λ (ps : List ℕ). AreCovered ways now ps c.as_slice-in-loop-group.result.now) (sym c.as_slice.ensures) (subst (AreCovered ways now g.places) (sym c.as_slice-in-loop-group.ensures) covered)))),
+      λ all. c.keep_seen-some.ensures.some (c.loop-group.invariant.2 all),
     )

@@ -32,7 +32,7 @@ returns-in-Ok-clause-narrows c =
     let sees : SeesAll ways sets places seen =
     subst (λ (ws : List Way). SeesAll ws sets places seen) c.as_slice.ensures.value
     (subst (λ (xs : List ℕ). SeesAll c.as_slice.result.now xs places seen) c.as_slice-2.ensures.value c.in-Ok.ensures.sees) in
-    c.keep_marked.ensures c.args.ways.now
+    c.keep_marked.ensures.narrows c.args.ways.now
     (subst (SeesAll c.args.ways.now c.args.sets.now places) (sym c.as_slice-in-Ok.ensures.value)
     (part_sees c.args.ways.now c.args.sets.now c.args.labels.now c.args.label c.requires.size c.requires.within ways c.in_ok-part_ways.ensures.part sets c.in_ok-part_sets.ensures places c.requires.places c.requires.rising c.requires.some
     seen sees))

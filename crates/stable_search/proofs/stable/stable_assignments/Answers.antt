@@ -1,12 +1,10 @@
 use Rattle.std.proofs.Common.{◌∙◌, ℕ, List, length, get_or, sym, ap, subst, arith}
-use Rattle.std.specs.List.{All}
 use Rattle.std.proofs.lemmas.Result.{err_from_is_err_and}
 use Rattle.ranked_policy.specs.declared.network.Link.{Link}
 use Rattle.ranked_policy.specs.Plans.{Plan}
-use Rattle.stable_search.specs.declared.group.Group.{Group}
 use Rattle.stable_search.specs.declared.seat.Seat.{Seat}
 use Rattle.stable_search.specs.declared.way.Way.{Way}
-use Rattle.stable_search.specs.Groups.{IsGroup, AreValues, ArePartsOf, RefusesPlaces}
+use Rattle.stable_search.specs.Groups.{AreValues, ArePartsOf, RefusesPlaces}
 use Rattle.stable_search.specs.Led.{HaveLed}
 use Rattle.stable_search.specs.Picks.{AllSome, Narrows}
 use Rattle.stable_search.proofs.NarrowLemmas.{narrows_then}
@@ -23,7 +21,7 @@ parts_of-requires-clause-size c =
     let sets = c.in_ok-sets.sets.items in
     let found = c.in_ok-grouping.ensures in
     let values : AreValues seats sets = subst (λ (xs : List Seat). AreValues xs sets) c.as_slice-2.ensures.value c.in_ok-sets.ensures in
-    let here = ap length c.as_slice-levels.ensures.value in
+    let here = ap length c.as_slice-6.ensures.value in
     let there = ap length c.as_slice-5.ensures.value in
     let mutable = ap length c.as_mut_slice.ensures.value in
     let levels = found.2.0.levels_are.size in
@@ -39,7 +37,7 @@ parts_of-requires-clause-groups c =
     let groups = c.in_ok-grouping.grouping.groups.items in (
       sets,
       subst (λ (xs : List Seat). AreValues xs sets) (c.as_slice-2.ensures.value ∙ sym c.as_slice-5.ensures.value) c.in_ok-sets.ensures,
-      subst (All (IsGroup sets)) (sym c.as_slice-6.ensures.value) (λ k d lt. group_before c.as_slice-4.result.now sets found.0 (get_or groups k d) narrows (found.2.0.fall.each k d lt)),
+      λ k d lt. group_before c.as_slice-4.result.now sets found.0 (get_or groups k d) narrows (found.2.0.fall.each k d lt),
     )
 
 pub returns-clause-every : goal.returns-clause-every
@@ -57,18 +55,15 @@ returns-clause-every c =
     let found = subst (λ (ws : List Way). (now : List ℕ) × (AllSome sets → AllSome now) × HaveLed ws sets now levels c.args.limits.now.most groups) c.as_slice-4.ensures.value
     (subst (λ (xs : List ℕ). (now : List ℕ) × (AllSome xs → AllSome now) × HaveLed c.as_slice-4.result.now xs now levels c.args.limits.now.most groups) c.as_mut_slice.ensures.value c.in_ok-grouping.ensures) in
     let parts : ArePartsOf seats levels groups c.in_ok-parts.parts =
-    subst (λ (gs : List Group). ArePartsOf seats levels gs c.in_ok-parts.parts) c.as_slice-6.ensures.value
-    (subst (λ (ls : List ℕ). ArePartsOf seats ls c.as_slice-6.result.now c.in_ok-parts.parts) c.as_slice-levels.ensures.value
-    (subst (λ (xs : List Seat). ArePartsOf xs c.as_slice-levels.result.now c.as_slice-6.result.now c.in_ok-parts.parts) c.as_slice-5.ensures.value c.in_ok-parts.ensures)) in
+    subst (λ (ls : List ℕ). ArePartsOf seats ls groups c.in_ok-parts.parts) c.as_slice-6.ensures.value
+    (subst (λ (xs : List Seat). ArePartsOf xs c.as_slice-6.result.now groups c.in_ok-parts.parts) c.as_slice-5.ensures.value c.in_ok-parts.ensures) in
     every p c.network-network.ensures.problem c.stable_is_fitting.ensures seats c.in_ok-seats.ensures.routers c.in_ok-seats.ensures.seats ways over sets values found.0 levels groups found.2.0 (record { parts = c.in_ok-parts.parts })
     parts (found.1 (seats_some p seats c.in_ok-seats.ensures.seats sets values))
 
 pub returns-clause-most : goal.returns-clause-most
 returns-clause-most c =
     let groups = c.in_ok-grouping.grouping.groups.items in
-    let parts : ArePartsOf c.as_slice-5.result.now c.as_slice-levels.result.now groups c.in_ok-parts.parts =
-    subst (λ (gs : List Group). ArePartsOf c.as_slice-5.result.now c.as_slice-levels.result.now gs c.in_ok-parts.parts) c.as_slice-6.ensures.value c.in_ok-parts.ensures in
-    few_parts c.as_slice-5.result.now c.as_slice-levels.result.now groups c.in_ok-parts.parts c.args.limits.now.most parts c.in_ok-grouping.ensures.2.1
+    few_parts c.as_slice-5.result.now c.as_slice-6.result.now groups c.in_ok-parts.parts c.args.limits.now.most c.in_ok-parts.ensures c.in_ok-grouping.ensures.2.1
 
 pub returns-in_err-seats-clause-refused : goal.returns-in_err-seats-clause-refused
 returns-in_err-seats-clause-refused c =
