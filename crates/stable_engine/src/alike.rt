@@ -25,9 +25,10 @@ fn have_one_rule(network: &Network, router: &NetRouter, one: &Prefix, other: &Pr
 }
 
 /// Whether the prefixes of two origins of a network are alike: one router originates both, and each router has one rule
-/// for both, or none. Then all stable assignments and all dispute wheels for one are those for the other.
+/// for both, or none. Then each router permits and prefers the same paths for both
+/// ([`alike_have_one_policy`](crate::laws::alike_have_one_policy)), and what is stable for one is so for the other.
 ///
-/// It looks up two rules of each router, up to the first router that has two for them. It takes no memory.
+/// Two rules of each router are looked up, as far as to the first router where they are not one. It takes no memory.
 pub fn are_alike(network: &Network, one: &Origin, other: &Origin) -> bool
     requires one { Contains network.now.origins one.now }
     requires other { Contains network.now.origins other.now }
