@@ -1,1 +1,2 @@
 pub mod SafeLemmas
+pub mod AlikeLemmas

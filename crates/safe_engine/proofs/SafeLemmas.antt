@@ -1,6 +1,6 @@
 -- Answers for prefixes, one more at a time.
-use Rattle.std.proofs.Common.{◌≡◌, ℕ, zero, suc, ◌+◌, ◌<◌, Bool, true, false, List, [], ◌∷◌, ◌++◌, map, take, length, get_or, append_assoc, refl, sym, ap, ◌∙◌, arith}
-use Rattle.std.specs.Prelude.{◌&&◌, is_ok}
+use Rattle.std.proofs.Common.{◌≡◌, ◌≢◌, ℕ, zero, suc, ◌+◌, ◌<◌, Bool, true, false, List, [], ◌∷◌, ◌++◌, map, take, length, get_or, append_assoc, refl, sym, ap, ◌∙◌, arith}
+use Rattle.std.specs.Prelude.{◌&&◌, Ok, Err, IfErr, is_ok}
 use Rattle.std.specs.List.{All}
 use Rattle.std.proofs.lemmas.List.{take_more, map-append, append-nil}
 use Rattle.std.proofs.lemmas.List.Elements.{All-append}
@@ -9,7 +9,8 @@ use Rattle.std.proofs.lemmas.Grind.{flat_map-append}
 use Rattle.prefix_lanes.specs.Bits.{PrefixView}
 use Rattle.ranked_policy.specs.Plans.{Plan}
 use Rattle.ranked_policy.specs.declared.network.Origin.{Origin}
-use Rattle.safe_engine.specs.Answers.{Answer, IsFound, found_text, answers_text, are_known, PutsFound, PutsAnswers}
+use Rattle.wheel_search.specs.declared.refusal.WheelError.TheVariants.{Memory}
+use Rattle.safe_engine.specs.Answers.{Answer, Found, IsFound, IsSearched, found_text, answers_text, are_known, PutsFound, PutsAnswers}
 
 one : {X : Type 0} (P : X → Type 0) (x : X) → P x → All P (x ∷ [])
 one P x p zero d below = p
@@ -51,3 +52,9 @@ answered_more net most os i o old mid new known is_known lt is puts found =
           ∙ append_assoc old (answers_text made) (found_text o.prefix found.0)
           ∙ ap (λ (t : List ℕ). old ++ t) (sym text),
     )
+
+-- what the search answered is an answer, if it wanted no memory
+pub puts_found : (net : Plan) (most : ℕ) (q : PrefixView) (found : Found) (old new : List ℕ) (known : Bool) → IsSearched net most q found → IfErr found (λ why. why ≢ Memory)
+    → new ≡ old ++ found_text q found → known ≡ is_ok found → PutsFound net most q old new known
+puts_found net most q (Ok safety) old new known searched memory text is = (Ok safety, searched, text, is)
+puts_found net most q (Err why) old new known searched memory text is = (Err why, (memory, searched), text, is)

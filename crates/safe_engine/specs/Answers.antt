@@ -1,6 +1,6 @@
 -- The text printed of the dispute wheels of a network, prefix by prefix.
 use Rattle.std.specs.Prelude.{◌≡◌, ◌≢◌, ℕ, Bool, List, [], ◌∷◌, ◌++◌, map, codes, Result, Ok, Err, is_ok, ◌⊎◌}
-use Rattle.std.specs.List.{All, flat_map, list_all}
+use Rattle.std.specs.List.{All, Contains, flat_map, list_all}
 use Rattle.prefix_lanes.specs.Bits.{PrefixView}
 use Rattle.ranked_policy.specs.Plans.{Plan}
 use Rattle.ranked_policy.specs.declared.network.Origin.{Origin}
@@ -17,6 +17,7 @@ use Rattle.wheel_search.specs.declared.rim.Safety.{Safety}
 use Rattle.wheel_search.specs.declared.refusal.WheelError.{WheelError}
 use Rattle.wheel_search.specs.declared.refusal.WheelError.TheVariants as search
 use Rattle.wheel_search.specs.Found.{IsAnswerOf, IsRefusal}
+use Rattle.safe_engine.specs.declared.prefixes.Answered.{Answered}
 use Rattle.safe_engine.specs.Listing.{safety_text}
 
 -- ---- the answer for a prefix
@@ -29,6 +30,15 @@ Found = Result Safety WheelError
 abbrev pub IsFound : Plan → ℕ → PrefixView → Found → Type 0
 IsFound net most q (Ok safety) = IsAnswerOf (at_prefix net q) safety
 IsFound net most q (Err why) = (why ≢ search.Memory) × IsRefusal (at_prefix net q) most why
+
+-- what the search answers for a prefix: the same, or that it wanted memory
+abbrev pub IsSearched : Plan → ℕ → PrefixView → Found → Type 0
+IsSearched net most q (Ok safety) = IsAnswerOf (at_prefix net q) safety
+IsSearched net most q (Err why) = IsRefusal (at_prefix net q) most why
+
+-- what the search answered for the prefix of an origin of the network
+abbrev pub IsLast : Plan → ℕ → Answered → Type 0
+IsLast net most answered = Contains net.origins answered.origin.now × IsSearched net most answered.origin.now.prefix answered.found
 
 abbrev pub refusal_text : PrefixView → WheelError → List ℕ
 refusal_text q (search.UnlistedPaths u) = unknown_line q (codes "paths") (u ∷ [])

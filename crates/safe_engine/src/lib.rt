@@ -5,6 +5,9 @@
 //! router without a rule stood in the way. The definitions stand in `specs/`: `Listing` (the lines of a prefix) and
 //! `Answers` (the text of a network and of an input).
 //!
+//! Where the prefixes of two origins one behind the other are alike ([`stable_engine::are_alike`]), the search is asked
+//! once.
+//!
 //! Left out: the search, which is `wheel_search`'s; what safe means, which is `dispute_wheels`'.
 #![tactic(auto)]
 

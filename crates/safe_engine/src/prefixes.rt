@@ -1,20 +1,21 @@
 //! The answers for the prefixes of a network.
 
-ghost use Rattle.std.specs.Prelude.{◌≡◌, ◌≢◌, ◌++◌, IfOk, OnOk};
-ghost use Rattle.ranked_policy.specs.Plans.{IsNamed};
+ghost use Rattle.std.specs.Prelude.{◌≡◌, ◌≢◌, ◌++◌, IfErr, IfOk, IfSome, OnOk, is_ok};
+ghost use Rattle.std.specs.List.{Contains};
 ghost use Rattle.text_engines.specs.Decoding.{output};
 ghost use Rattle.wheel_search.specs.declared.refusal.WheelError.TheVariants.{Memory};
-ghost use Rattle.safe_engine.specs.Answers.{refusal_text, PutsFound, PutsAnswers, SafetyGives};
+ghost use Rattle.safe_engine.specs.Answers.{found_text, refusal_text, IsSearched, IsLast, PutsAnswers, SafetyGives};
 
 use crate::lines::put_safety;
 use prefix_lanes::Prefix;
-use ranked_policy::Network;
-use stable_engine::put_unknown_line;
+use ranked_policy::{Network, Origin};
+use stable_engine::laws::alike_have_one_policy;
 use stable_engine::status::UNKNOWN;
+use stable_engine::{are_alike, put_unknown_line};
 use stable_paths::Instance;
 use std::alloc::{AllocError, Global};
 use text_engines::status::DONE;
-use wheel_search::{WheelError, dispute_wheel};
+use wheel_search::{Safety, WheelError, dispute_wheel};
 
 // Appends which router stood in the way for a prefix.
 fn put_refusal(prefix: &Prefix, why: &WheelError, out: &mut Vec<u8>) -> Result<(), AllocError>
@@ -26,25 +27,51 @@ fn put_refusal(prefix: &Prefix, why: &WheelError, out: &mut Vec<u8>) -> Result<(
     }
 }
 
-// Appends the answer for a prefix, and answers whether all is known.
-fn put_prefix(
+// An origin, and what the search answered for its prefix.
+#[derive(Drop)]
+struct Answered<'a> {
+    origin: &'a Origin,
+    found: Result<Safety, WheelError>,
+}
+
+// What the search answers for the prefix of an origin: the last answer, if it is that of a prefix which is alike.
+fn found_for(
     alloc: Global,
     network: &Network,
-    prefix: &Prefix,
     most: usize,
+    last: Option<Answered<'_>>,
+    origin: &Origin,
+) -> Result<Safety, WheelError>
+    requires origin { Contains network.now.origins origin.now }
+    requires last { IfSome last (IsLast network.now most) }
+    ensures { IsSearched network.now most origin.now.prefix result }
+{
+    alike_have_one_policy();
+    if let Some(answered) = last {
+        if are_alike(network, answered.origin, origin) {
+            return answered.found;
+        }
+    }
+    dispute_wheel(alloc, &Instance::new(network, &origin.prefix), most)
+}
+
+// Appends what the search answered for a prefix, and answers whether all is known.
+fn put_found(
+    prefix: &Prefix,
+    found: &Result<Safety, WheelError>,
     out: &mut Vec<u8>,
 ) -> Result<bool, AllocError>
-    requires { IsNamed network.now.origins prefix.now }
-    ensures { IfOk result (λ known. PutsFound network.now most prefix.now out.old.items out.new.items known) }
+    ensures memory { OnOk result (IfErr found.now (λ why. why ≢ Memory)) }
+    ensures text { OnOk result (out.new.items ≡ out.old.items ++ found_text prefix.now found.now) }
+    ensures known { IfOk result (λ known. known ≡ is_ok found.now) }
 {
-    let instance = Instance::new(network, prefix);
-    match dispute_wheel(alloc, &instance, most) {
+    match found {
         Ok(safety) => {
-            put_safety(prefix, &safety, out)?;
+            put_safety(prefix, safety, out)?;
             Ok(true)
         }
         Err(why) => {
-            put_refusal(prefix, &why, out)?;
+            put_refusal(prefix, why, out)?;
             Ok(false)
         }
     }
@@ -61,9 +88,12 @@ fn put_prefixes(
         (λ known. PutsAnswers network.now most network.now.origins out.old.items out.new.items known) }
 {
     let mut known = true;
+    let mut last = None;
     for origin in network.origins() {
-        let is_known = put_prefix(alloc, network, &origin.prefix, most, out)?;
+        let found = found_for(alloc, network, most, last, origin);
+        let is_known = put_found(&origin.prefix, &found, out)?;
         known = known & is_known;
+        last = Some(Answered { origin, found });
     }
     Ok(known)
 }

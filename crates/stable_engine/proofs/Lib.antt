@@ -1,1 +1,3 @@
 pub mod StableLemmas
+pub mod AlikeRules
+pub mod AlikeLemmas

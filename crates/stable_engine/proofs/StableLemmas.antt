@@ -1,6 +1,6 @@
 -- Answers for prefixes, one more at a time.
-use Rattle.std.proofs.Common.{◌≡◌, ℕ, zero, suc, ◌+◌, ◌<◌, Bool, true, false, List, [], ◌∷◌, ◌++◌, map, drop, take, flat_map, length, get_or, append_assoc, refl, sym, ap, ◌∙◌, arith}
-use Rattle.std.specs.Prelude.{◌&&◌, is_ok}
+use Rattle.std.proofs.Common.{◌≡◌, ◌≢◌, ℕ, zero, suc, ◌+◌, ◌<◌, Bool, true, false, List, [], ◌∷◌, ◌++◌, map, drop, take, flat_map, length, get_or, append_assoc, refl, sym, ap, ◌∙◌, arith}
+use Rattle.std.specs.Prelude.{◌&&◌, Ok, Err, IfErr, is_ok}
 use Rattle.std.specs.List.{All}
 use Rattle.std.proofs.lemmas.Bool.{ne_eqb}
 use Rattle.std.proofs.lemmas.List.{take_more, drop_more, map-append, append-nil}
@@ -11,8 +11,9 @@ use Rattle.std.proofs.lemmas.Grind.{flat_map-append}
 use Rattle.ranked_policy.specs.Plans.{Plan}
 use Rattle.ranked_policy.specs.declared.network.Origin.{Origin}
 use Rattle.stable_search.specs.declared.limits.SearchLimits.{SearchLimits}
+use Rattle.stable_search.specs.declared.refusal.SearchError.TheVariants.{Memory}
 use Rattle.stable_engine.specs.Listing.{route_text}
-use Rattle.stable_engine.specs.Answers.{Answer, IsFound, found_text, answers_text, are_known, PutsFound, PutsAnswers}
+use Rattle.stable_engine.specs.Answers.{Answer, Found, IsFound, IsSearched, found_text, answers_text, are_known, PutsFound, PutsAnswers}
 
 -- the text of one more
 pub text_on : {X : Type 0} (f : X → List ℕ) (xs : List X) (i : ℕ) (x : X) (old new all : List ℕ) → i < length xs → x ≡ get_or xs i x → new ≡ old ++ f x → old ++ flat_map f (drop i xs) ≡ all
@@ -61,6 +62,12 @@ answered_more limits net os i o old mid new known is_known lt is puts found =
           ∙ append_assoc old (answers_text net made) (found_text net o.prefix found.0)
           ∙ ap (λ (t : List ℕ). old ++ t) (sym text),
     )
+
+-- what the search answered is an answer, if it wanted no memory
+pub puts_found : (limits : SearchLimits) (net : Plan) (q : PrefixView) (found : Found) (old new : List ℕ) (known : Bool) → IsSearched limits net q found → IfErr found (λ why. why ≢ Memory)
+    → new ≡ old ++ found_text net q found → known ≡ is_ok found → PutsFound limits net q old new known
+puts_found limits net q (Ok every) old new known searched memory text is = (Ok every, searched, text, is)
+puts_found limits net q (Err why) old new known searched memory text is = (Err why, (memory, searched), text, is)
 
 -- another router was passed
 pub route_passed : (q : PrefixView) (u : ℕ) (us : List ℕ) (paths : List (List ℕ)) (k : ℕ) (text : List ℕ) → k < length us → length paths ≡ length us → (get_or us k 0 ≡ u → ⊥)

@@ -1,6 +1,6 @@
 -- The text printed of all stable assignments of a network, prefix by prefix.
 use Rattle.std.specs.Prelude.{◌≡◌, ◌≢◌, ℕ, Bool, List, [], ◌∷◌, ◌++◌, map, codes, Result, Ok, Err, is_ok, if◌then◌else◌, ◌⊎◌}
-use Rattle.std.specs.List.{All, flat_map, list_all}
+use Rattle.std.specs.List.{All, Contains, flat_map, list_all}
 use Rattle.prefix_lanes.specs.Bits.{PrefixView}
 use Rattle.ranked_policy.specs.Plans.{Plan}
 use Rattle.ranked_policy.specs.declared.network.Origin.{Origin}
@@ -18,6 +18,7 @@ use Rattle.stable_search.specs.Refusals.{AreFew, IsRefusal}
 use Rattle.text_engines.specs.Checking.{at_prefix}
 use Rattle.text_engines.specs.Decoding.{Output, output, refused, WithinLimit, OrMemory}
 use Rattle.text_engines.specs.declared.status.TheConstants.{DONE}
+use Rattle.stable_engine.specs.declared.prefixes.Answered.{Answered}
 use Rattle.stable_engine.specs.declared.status.TheConstants.{UNKNOWN}
 use Rattle.stable_engine.specs.Listing.{every_text, unknown_line}
 
@@ -31,6 +32,15 @@ Found = Result Every SearchError
 abbrev pub IsFound : SearchLimits → Plan → PrefixView → Found → Type 0
 IsFound limits net q (Ok every) = IsEveryStable (at_prefix net q) every × AreFew limits.most every.parts
 IsFound limits net q (Err why) = (why ≢ search.Memory) × IsRefusal (at_prefix net q) limits why
+
+-- what the search answers for a prefix: the same, or that it wanted memory
+abbrev pub IsSearched : SearchLimits → Plan → PrefixView → Found → Type 0
+IsSearched limits net q (Ok every) = IsEveryStable (at_prefix net q) every × AreFew limits.most every.parts
+IsSearched limits net q (Err why) = IsRefusal (at_prefix net q) limits why
+
+-- what the search answered for the prefix of an origin of the network
+abbrev pub IsLast : SearchLimits → Plan → Answered → Type 0
+IsLast limits net answered = Contains net.origins answered.origin.now × IsSearched limits net answered.origin.now.prefix answered.found
 
 abbrev pub refusal_text : PrefixView → SearchError → List ℕ
 refusal_text q (search.TooManyPaths u) = unknown_line q (codes "paths") (u ∷ [])

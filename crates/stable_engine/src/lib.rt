@@ -4,11 +4,14 @@
 //! each origin, in a stable assignment each router of a `route` line has its path, the routers of each dispute have one
 //! of its choices, and a router of a `follow` line has one of its paths; to any choices of the disputes belongs exactly
 //! one stable assignment. Or the line says which limit was met. The definitions stand in `specs/`: `Listing` (the lines
-//! of a prefix) and `Answers` (the text of a network and of an input).
+//! of a prefix), `Answers` (the text of a network and of an input) and `Alike` (prefixes with one answer).
+//!
+//! Where the prefixes of two origins one behind the other are alike ([`are_alike`]), the search is asked once.
 //!
 //! Left out: the search, which is `stable_search`'s; dispute wheels.
 #![tactic(auto)]
 
+mod alike;
 pub mod laws;
 mod lines;
 mod parts;
@@ -16,5 +19,6 @@ mod prefixes;
 mod stable;
 pub mod status;
 
+pub use alike::are_alike;
 pub use lines::put_unknown_line;
 pub use stable::{StableEngine, network_part};

@@ -1,11 +1,13 @@
 //! The answers for the prefixes of a network.
 
-ghost use Rattle.std.specs.Prelude.{◌≡◌, ◌≢◌, ◌++◌, IfOk, OnOk};
-ghost use Rattle.ranked_policy.specs.Plans.{IsNamed};
+ghost use Rattle.std.specs.Prelude.{◌≡◌, ◌≢◌, ◌++◌, IfErr, IfOk, IfSome, OnOk, is_ok};
+ghost use Rattle.std.specs.List.{All, Contains};
+ghost use Rattle.stable_search.specs.Every.{IsPart};
 ghost use Rattle.stable_search.specs.declared.refusal.SearchError.TheVariants.{Memory};
 ghost use Rattle.text_engines.specs.Decoding.{output};
-ghost use Rattle.stable_engine.specs.Answers.{refusal_text, PutsFound, PutsAnswers, StablesGive};
+ghost use Rattle.stable_engine.specs.Answers.{found_text, refusal_text, IsSearched, IsLast, PutsAnswers, StablesGive};
 
+use crate::alike::are_alike;
 use crate::lines::put_unknown_line;
 use crate::parts::put_every;
 use crate::status::UNKNOWN;
@@ -38,25 +40,52 @@ fn put_refusal(prefix: &Prefix, why: &SearchError, out: &mut Vec<u8>) -> Result<
     }
 }
 
-// Appends the answer for a prefix, and answers whether all is known.
-fn put_prefix(
+// An origin, and what the search answered for its prefix.
+#[derive(Drop)]
+struct Answered<'a> {
+    origin: &'a Origin,
+    found: Result<Every, SearchError>,
+}
+
+// What the search answers for the prefix of an origin: the last answer, if it is that of a prefix which is alike.
+fn found_for(
     alloc: Global,
     network: &Network,
-    prefix: &Prefix,
     limits: &SearchLimits,
+    last: Option<Answered<'_>>,
+    origin: &Origin,
+) -> Result<Every, SearchError>
+    requires origin { Contains network.now.origins origin.now }
+    requires last { IfSome last (IsLast limits.now network.now) }
+    ensures { IsSearched limits.now network.now origin.now.prefix result }
+{
+    if let Some(answered) = last {
+        if are_alike(network, answered.origin, origin) {
+            return answered.found;
+        }
+    }
+    stable_assignments(alloc, &Instance::new(network, &origin.prefix), limits)
+}
+
+// Appends what the search answered for a prefix, and answers whether all is known.
+fn put_found(
+    network: &Network,
+    prefix: &Prefix,
+    found: &Result<Every, SearchError>,
     out: &mut Vec<u8>,
 ) -> Result<bool, AllocError>
-    requires { IsNamed network.now.origins prefix.now }
-    ensures { IfOk result (λ known. PutsFound limits.now network.now prefix.now out.old.items out.new.items known) }
+    requires { IfOk found.now (λ every. All IsPart every.parts) }
+    ensures memory { OnOk result (IfErr found.now (λ why. why ≢ Memory)) }
+    ensures text { OnOk result (out.new.items ≡ out.old.items ++ found_text network.now prefix.now found.now) }
+    ensures known { IfOk result (λ known. known ≡ is_ok found.now) }
 {
-    let instance = Instance::new(network, prefix);
-    match stable_assignments(alloc, &instance, limits) {
+    match found {
         Ok(every) => {
-            put_every(prefix, network.routers(), &every, out)?;
+            put_every(prefix, network.routers(), every, out)?;
             Ok(true)
         }
         Err(why) => {
-            put_refusal(prefix, &why, out)?;
+            put_refusal(prefix, why, out)?;
             Ok(false)
         }
     }
@@ -73,9 +102,12 @@ fn put_prefixes(
         (λ known. PutsAnswers limits.now network.now network.now.origins out.old.items out.new.items known) }
 {
     let mut known = true;
+    let mut last = None;
     for origin in network.origins() {
-        let is_known = put_prefix(alloc, network, &origin.prefix, limits, out)?;
+        let found = found_for(alloc, network, limits, last, origin);
+        let is_known = put_found(network, &origin.prefix, &found, out)?;
         known = known & is_known;
+        last = Some(Answered { origin, found });
     }
     Ok(known)
 }

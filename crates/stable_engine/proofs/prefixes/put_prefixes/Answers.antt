@@ -1,14 +1,21 @@
-use Rattle.std.proofs.Common.{◌≡◌, ◌<◌, List, length, get_or, subst}
+use Rattle.std.proofs.Common.{◌≡◌, ◌<◌, List, length, get_or, subst, sym}
 use Rattle.ranked_policy.specs.declared.network.Origin.{Origin}
-use Rattle.stable_engine.proofs.StableLemmas.{answered_more}
+use Rattle.stable_engine.proofs.StableLemmas.{answered_more, puts_found}
 use Rattle.stable_engine.proofs.prefixes.put_prefixes.Goals as goal
 
 pub loop-origin-preserved : goal.loop-origin-preserved
 loop-origin-preserved c =
     let i = c.loop-origin.origin-index in
     let o = c.origin-item.result in
+    let net = c.args.network.now in
+    let out = c.loop-origin.out.items in
+    let new = c.put_found.new.out.items in
+    let known = c.in_ok-is_known.is_known in
     let same = c.origins-origin-items.ensures.value in
-    answered_more c.args.limits.now c.args.network.now c.args.network.now.origins i o c.args.out.now.items c.loop-origin.out.items c.put_prefix.new.out.items c.loop-origin.known c.in_ok-is_known.is_known
-    (subst (λ (os : List Origin). i < length os) same c.loop-origin-test.true)
-    (subst (λ (os : List Origin). o ≡ get_or os i o) same c.origin-item.is)
-    c.loop-origin.invariant c.in_ok-is_known.ensures
+    let lt = subst (λ (os : List Origin). i < length os) same c.loop-origin-test.true in
+    let at = subst (λ (os : List Origin). o ≡ get_or os i o) same c.origin-item.is in
+    let put = puts_found c.args.limits.now net o.prefix c.found_for-found.result out new known c.found_for-found.ensures c.in_ok-is_known.ensures.memory c.in_ok-is_known.ensures.text c.in_ok-is_known.ensures.known in
+    record {
+      answered = answered_more c.args.limits.now net net.origins i o c.args.out.now.items out new c.loop-origin.known known lt at c.loop-origin.invariant.answered put;
+      last = ((i, lt, sym at), c.found_for-found.ensures);
+    }

@@ -1,7 +1,11 @@
--- of the origins that were passed each has its answer
+-- of the origins that were passed each has its answer, the last one that which is kept
 use Rattle.std.proofs.Common.{take}
-use Rattle.stable_engine.specs.Answers.{PutsAnswers}
+use Rattle.std.specs.Prelude.{IfSome}
+use Rattle.stable_engine.specs.Answers.{IsLast, PutsAnswers}
 use Rattle.stable_engine.proofs.prefixes.put_prefixes.Given as goal
 
 abbrev pub invariant-loop-origin : goal.invariant-loop-origin
-invariant-loop-origin l = PutsAnswers l.limits l.network (take l.origin-index l.network.origins) l.fn.out.items l.out.items l.known
+invariant-loop-origin l = record {
+  answered : PutsAnswers l.limits l.network (take l.origin-index l.network.origins) l.fn.out.items l.out.items l.known;
+  last : IfSome l.last (IsLast l.limits l.network);
+}
