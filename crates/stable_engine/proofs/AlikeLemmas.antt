@@ -12,8 +12,8 @@ use Rattle.stable_search.specs.declared.limits.SearchLimits.{SearchLimits}
 use Rattle.stable_search.specs.declared.refusal.SearchError.{SearchError}
 use Rattle.stable_search.specs.declared.refusal.SearchError.TheVariants as refusals
 use Rattle.stable_search.specs.Every.{IsEveryStable}
-use Rattle.stable_search.specs.Fits.{MayStand, FitsAt}
-use Rattle.stable_search.specs.Refusals.{FitsAmong, FitTogether, HasMoreChoices, MayHaveTooManyPaths, IsRefusal}
+use Rattle.stable_search.specs.Fits.{MayStand, FitsAt, FitsAmong, FitTogether}
+use Rattle.stable_search.specs.Refusals.{HasMoreChoices, MayHaveTooManyPaths, IsRefusal}
 use Rattle.text_engines.specs.Checking.{at_prefix}
 use Rattle.stable_engine.specs.Alike.{Alike, HaveOnePolicy}
 use Rattle.stable_engine.specs.Answers.{Found, IsSearched}
@@ -109,6 +109,15 @@ every_to net q r policies every h =
       apart = h.apart;
       order = h.order;
       needed = h.needed;
+      among = record {
+        may = h.among.may;
+        some = h.among.some;
+        has = λ paths stable. h.among.has paths (back paths stable);
+        choices = λ k d lt paths. (let same = h.among.choices k d lt paths in (
+          (λ c. (let both = same.0 c in (both.0, together_to net q r policies (get_or every.parts k d).routers paths both.1))),
+          (λ both. same.1 (both.0, together_to net r q (turned net q r policies) (get_or every.parts k d).routers paths both.1)),
+        ));
+      };
     }
 
 more_to : (net : Plan) (q r : PrefixView) → Policies net q r → (most : ℕ) (routers : List ℕ) → HasMoreChoices (at_prefix net q) most routers → HasMoreChoices (at_prefix net r) most routers

@@ -12,11 +12,10 @@ use Rattle.stable_search.specs.declared.every.Component.{Component}
 use Rattle.stable_search.specs.declared.group.Group.{Group}
 use Rattle.stable_search.specs.declared.seat.Seat.{Seat}
 use Rattle.stable_search.specs.declared.way.Way.{Way}
-use Rattle.stable_search.specs.Every.{choices_of, HasChoice, AreChoices, ChooseAmong}
+use Rattle.stable_search.specs.Every.{choices_of, HasChoice, ChooseAmong}
 use Rattle.stable_search.specs.Fits.{FitsAt, FitsAmong, FitTogether, StableIsFitting}
-use Rattle.stable_search.specs.Groups.{at_places, AreGroups, AreOwn, AreValues, ArePartsOf, ArePlaces, FitsBetween, IsGroup, IsPartOf}
+use Rattle.stable_search.specs.Groups.{at_places, AreOwn, AreValues, ArePartsOf, ArePlaces, FitsBetween, IsGroup, IsPartOf}
 use Rattle.stable_search.specs.Led.{AreLed}
-use Rattle.stable_search.specs.Parting.{IsCopy}
 use Rattle.stable_search.specs.Picks.{AllSome, FitsWay, Has, Narrows}
 use Rattle.stable_search.specs.Seats.{IsSeat, FitsBoth, FitsEnd, StandsAt, IsWayOf, AreWaysOf}
 use Rattle.stable_search.proofs.ChoiceLemmas.{as_many}

@@ -1,6 +1,6 @@
 -- Places that bear on each other have one label, and each label's places have their own picks.
 use Rattle.std.proofs.Common.{◌≡◌, ◌≢◌, ℕ, zero, suc, ◌<◌, ◌≤◌, ◌+◌, ◌==◌, Bool, true, cond, List, [], ◌∷◌, ◌++◌, length, take, get_or, map, refl, sym, ap, subst, ◌∙◌, eq-eqb, ne_eqb, arith, inl, inr, ◌⊎◌}
-use Rattle.std.specs.Prelude.{◌↔◌, Result, Ok, Err, IfOk, IfErr, IsErrAnd, Vec}
+use Rattle.std.specs.Prelude.{◌↔◌, Result, Ok, Err, IfOk, IfErr, IsErrAnd}
 use Rattle.std.specs.List.{All, AllPairs, Any, Contains}
 use Rattle.std.specs.Int.{bit_at}
 use lib.Bits.{bit_and}
@@ -16,7 +16,7 @@ use Rattle.stable_search.specs.declared.seat.Seat.{Seat}
 use Rattle.stable_search.specs.declared.stop.Stop.TheVariants as stops
 use Rattle.stable_search.specs.declared.way.Way.{Way}
 use Rattle.stable_search.specs.Picks.{Has, IsIn, FitsWay, IsWithin, AreWithin, Solves, AreAll, AddsMore, IsFull, Narrows, SeesAll}
-use Rattle.stable_search.specs.Groups.{at_places, IsAway, IsPickOf, IsGroup, AreGroups, AreOwn, RefusesSearch, ArePlaces, FitsBetween, RefusesPlaces}
+use Rattle.stable_search.specs.Groups.{at_places, IsAway, IsPickOf, IsGroup, AreGroups, RefusesSearch, ArePlaces, FitsBetween, RefusesPlaces}
 use Rattle.stable_search.specs.Parting.{IsFree, IsAlone, AreLeast, Joins, AreLabels, InPart, KeepsPart, IsCopy, AreCopies, IsPartSets, IsPartGroup, AreGrouped}
 
 pub in_all : (a b v : ℕ) → bit_and a b ≡ a → Has a v → Has b v

@@ -1,7 +1,7 @@
 -- What a refusal of a search for stable assignments means.
 use Rattle.std.specs.Prelude.{ℕ, ◌≡◌, ◌≢◌, ◌<◌, ◌≤◌, ⊤, List, length, map}
-use Rattle.std.specs.List.{All, AllPairs, Contains}
-use Rattle.ranked_policy.specs.Plans.{IsRouter, Linked}
+use Rattle.std.specs.List.{All, AllPairs}
+use Rattle.ranked_policy.specs.Plans.{IsRouter}
 use Rattle.ranked_policy.specs.Policies.{Table, IsTableOf, Originates, NoRuleFor}
 use Rattle.stable_paths.specs.Stable.{Problem}
 use Rattle.stable_search.specs.declared.every.Component.{Component}

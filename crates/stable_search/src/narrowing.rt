@@ -118,11 +118,7 @@ fn all_some(sets: &[u64]) -> bool
 }
 
 /// Removes the values that nothing fits, unless a set would lose its last one.
-pub(crate) fn narrow_some(
-    alloc: Global,
-    ways: &[Way],
-    sets: &mut [u64],
-) -> Result<(), AllocError>
+pub(crate) fn narrow_some(alloc: Global, ways: &[Way], sets: &mut [u64]) -> Result<(), AllocError>
     requires { AreWithin (length sets.old) ways.now }
     ensures narrows { OnOk result (Narrows ways.now sets.old sets.new) }
     ensures some { OnOk result (AllSome sets.old → AllSome sets.new) }

@@ -1,4 +1,3 @@
-use Rattle.std.proofs.Common.{true}
 use Rattle.stable_search.proofs.KeepLemmas.{kept_by, some_left}
 use Rattle.stable_search.proofs.keeping.keep_only.Goals as goal
 

@@ -1,4 +1,4 @@
-use Rattle.std.proofs.Common.{ℕ, get_or, refl, arith}
+use Rattle.std.proofs.Common.{ℕ, refl, arith}
 use Rattle.stable_search.specs.Picks.{Has}
 use Rattle.stable_search.proofs.FollowLemmas.{all_on}
 use Rattle.stable_search.proofs.narrowing.all_some.Goals as goal

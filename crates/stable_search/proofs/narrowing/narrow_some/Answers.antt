@@ -1,4 +1,4 @@
-use Rattle.std.proofs.Common.{List, ℕ, sym, subst, refl, ◌∙◌}
+use Rattle.std.proofs.Common.{sym, subst, refl, ◌∙◌}
 use Rattle.stable_search.specs.Picks.{AllSome}
 use Rattle.stable_search.proofs.narrowing.narrow_some.Goals as goal
 use Rattle.stable_search.proofs.narrowing.narrow_some.Goals.{then-all_some, else-all_some}
