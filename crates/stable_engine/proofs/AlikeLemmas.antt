@@ -112,6 +112,7 @@ every_to net q r policies every h =
       among = record {
         may = h.among.may;
         some = h.among.some;
+        stand = λ u router. (let t = h.among.stand u router in (t.0, t.1, λ k d lt. stand_to t.0 q r (policies u t.0 t.1) net.links (get_or (h.among.may u) k d) (t.2 k d lt)));
         has = λ paths stable. h.among.has paths (back paths stable);
         choices = λ k d lt paths. (let same = h.among.choices k d lt paths in (
           (λ c. (let both = same.0 c in (both.0, together_to net q r policies (get_or every.parts k d).routers paths both.1))),

@@ -4,16 +4,19 @@ use Rattle.std.specs.List.{All, AllPairs, Contains}
 use Rattle.std.specs.Int.{bit_at}
 use Rattle.std.proofs.lemmas.Bool.{cases_eq, cases_lt}
 use Rattle.std.proofs.lemmas.List.{length-map, get_or_default}
+use Rattle.std.proofs.lemmas.List.Elements.{Contains-get_or}
 use Rattle.ranked_policy.specs.Plans.{IsRouter, Linked, numbers}
 use Rattle.ranked_policy.proofs.OneTable.{one_table}
 use Rattle.ranked_policy.proofs.Reached.{linked_back}
+use Rattle.ranked_policy.specs.Policies.{Table, IsTableOf}
 use Rattle.stable_paths.specs.Stable.{Problem, IsInstance, IsStable}
 use Rattle.stable_search.specs.declared.every.Component.{Component}
 use Rattle.stable_search.specs.declared.group.Group.{Group}
 use Rattle.stable_search.specs.declared.seat.Seat.{Seat}
 use Rattle.stable_search.specs.declared.way.Way.{Way}
+use Rattle.stable_search.specs.Counting.{SeveralHaveNone}
 use Rattle.stable_search.specs.Every.{choices_of, HasChoice, ChooseAmong}
-use Rattle.stable_search.specs.Fits.{FitsAt, FitsAmong, FitTogether, StableIsFitting}
+use Rattle.stable_search.specs.Fits.{MayStand, FitsAt, FitsAmong, FitTogether, StableIsFitting}
 use Rattle.stable_search.specs.Groups.{at_places, AreOwn, AreValues, ArePartsOf, ArePlaces, FitsBetween, IsGroup, IsPartOf}
 use Rattle.stable_search.specs.Led.{AreLed}
 use Rattle.stable_search.specs.Picks.{AllSome, FitsWay, Has, Narrows}
@@ -119,6 +122,18 @@ module _ (p : Problem) (is : IsInstance p) (law : StableIsFitting) (seats : List
       let a = alive r.0 (let lt = r.2.0 in omega (arith, lt, size_now)) in
       let c = may_has r.0 r.1 r.2 a.0 (get_or r.1.values.items a.0 []) a.1 refl in
       subst (λ (n : ℕ). 0 < length (may n)) r.3 (let lt = c.1 in omega (arith, lt))
+
+  may_stand : (u : ℕ) → IsRouter p.net.routers u → (table : Table) × IsTableOf p.net u table × All (MayStand p.net.links p.prefix table) (may u)
+  may_stand u router =
+      let r = router_at p is law seats at each ways over sets values u router in
+      let x = seat_is r.0 r.1 r.2 in
+      subst (λ (n : ℕ). (table : Table) × IsTableOf p.net n table × All (MayStand p.net.links p.prefix table) (may n)) r.3
+      (x.table, x.of, λ k d lt.
+      (let paths = kept r.1.values.items (get_or now r.0 0) 0 in
+      let path = get_or (may r.1.router) k d in
+      let c : Contains paths path = subst (λ (ys : List (List ℕ)). Contains ys path) (may_is r.0 r.1 r.2) (Contains-get_or (may r.1.router) k d lt) in
+      let v = has_kept r.1.values.items (get_or now r.0 0) 0 path c in
+      x.may path (v.j, v.inside, get_or_default r.1.values.items v.j path [] v.inside ∙ v.is)))
 
   may_stable : (paths : ℕ → List ℕ) → IsStable p paths → (u : ℕ) → IsRouter p.net.routers u → Contains (may u) (paths u)
   may_stable paths stable u router =
@@ -308,6 +323,7 @@ module _ (p : Problem) (is : IsInstance p) (law : StableIsFitting) (seats : List
   among = record {
     may = may;
     some = may_some;
+    stand = may_stand;
     has = may_stable;
     choices = λ g d lt paths.
         (let group = stands groups g (omega (arith, lt, of.size)) in
@@ -317,3 +333,30 @@ module _ (p : Problem) (is : IsInstance p) (law : StableIsFitting) (seats : List
           λ both. fits_choice g group.0 part group.1 pt paths both.0 both.1,
         ));
   }
+
+-- a router by itself has a path that it may have
+pub several_have_none : SeveralHaveNone
+several_have_none p is every all g d lt none = elim (cases_lt 1 (length (get_or every.parts g d).routers)) [
+  | inl more ↦ more
+  | inr few ↦
+      let part : Component = get_or every.parts g d in
+      let some = (all.parts g d lt).some in
+      let single : length part.routers ≡ 1 = omega (arith, few, some) in
+      let u = get_or part.routers 0 0 in
+      let here_u : Contains part.routers u = Contains-get_or part.routers 0 0 some in
+      let router : IsRouter p.net.routers u = (all.routers u).1 (g, part, lt, get_or_default every.parts g part d lt, here_u) in
+      let same : (v : ℕ) → Contains part.routers v → u ≡ v = λ v c. same_place part.routers u v single here_u c in
+      let path = get_or (all.among.may u) 0 [] in
+      let path_in_u : Contains (all.among.may u) path = Contains-get_or (all.among.may u) 0 [] (all.among.some u router) in
+      let t = all.among.stand u router in
+      let fit : FitTogether p part.routers (λ v. path) = λ v c. (
+        t.0,
+        subst (λ (n : ℕ). IsTableOf p.net n t.0) (same v c) t.1,
+        record {
+          may = t.2 0 [] (all.among.some u router);
+          fits = λ w cw linked not. absurd (linked_apart p.net is.network t.0.router w linked (t.1.0 ∙ same w cw));
+        },
+      ) in
+      let choice = (all.among.choices g d lt (λ v. path)).1 ((λ v c. subst (λ (n : ℕ). Contains (all.among.may n) path) (same v c) path_in_u), fit) in
+      absurd (omega (arith, choice.1, none))
+]

@@ -1,11 +1,11 @@
 -- How many stable assignments there are.
-use Rattle.std.specs.Prelude.{ℕ, ◌≡◌, ◌≢◌, ◌↔◌, Bool, false, not, List, [], filter, length, map}
+use Rattle.std.specs.Prelude.{ℕ, ◌≡◌, ◌≢◌, ◌↔◌, ◌<◌, Bool, false, not, List, [], filter, length, map}
 use Rattle.std.specs.List.{All, AllPairs, Contains}
 use Rattle.ranked_policy.specs.Plans.{IsRouter}
 use Rattle.stable_paths.specs.Stable.{Problem, IsProblem, IsStable}
 use Rattle.stable_search.specs.declared.every.Component.{Component}
 use Rattle.stable_search.specs.declared.every.Every.{Every}
-use Rattle.stable_search.specs.Every.{number_of, IsEveryStable}
+use Rattle.stable_search.specs.Every.{choices_of, number_of, IsEveryStable}
 
 -- what the routers of each part have
 abbrev pub what_all_have : (ℕ → List ℕ) → List Component → List (List (List ℕ))
@@ -31,6 +31,12 @@ pub record AreCounted (p : Problem) (parts : List Component) (found : List (List
 abbrev pub StableAreCounted : Type 0
 StableAreCounted =
     (p : Problem) (every : Every) → IsEveryStable p every → (found : List (List (List (List ℕ)))) × AreCounted p every.parts found
+
+-- a part without a choice has two routers or more
+abbrev pub SeveralHaveNone : Type 0
+SeveralHaveNone =
+    (p : Problem) → IsProblem p → (every : Every) → IsEveryStable p every
+    → All (λ part. length (choices_of part) ≡ 0 → 1 < length part.routers) every.parts
 
 -- if nobody originates the prefix, one assignment is stable: no router has a path
 abbrev pub NoneWithoutOrigin : Type 0

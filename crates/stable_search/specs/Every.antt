@@ -2,10 +2,11 @@
 use Rattle.std.specs.Prelude.{ℕ, ◌≡◌, ◌≢◌, ◌<◌, ◌≤◌, ◌*◌, ◌^◌, ◌↔◌, true, false, if◌then◌else◌, List, [], ◌∷◌, Option, Some, None, length, map, slice_index, slice_index_or}
 use Rattle.std.specs.List.{All, AllPairs, Any, Contains}
 use Rattle.ranked_policy.specs.Plans.{IsRouter}
+use Rattle.ranked_policy.specs.Policies.{Table, IsTableOf}
 use Rattle.stable_paths.specs.Stable.{Problem, IsStable}
 use Rattle.stable_search.specs.declared.every.Component.{Component}
 use Rattle.stable_search.specs.declared.every.Every.{Every}
-use Rattle.stable_search.specs.Fits.{FitTogether}
+use Rattle.stable_search.specs.Fits.{MayStand, FitTogether}
 
 -- the paths that a pick stands for: of each router's paths the one at its place
 abbrev pub picked_paths : List (List (List ℕ)) → List ℕ → List (List ℕ)
@@ -57,11 +58,13 @@ AreChoices p may part =
     (paths : ℕ → List ℕ) → (HasChoice paths part
     ↔ ((u : ℕ) → Contains part.routers u → Contains (may u) (paths u)) × FitTogether p part.routers paths)
 
--- of each router some paths, at least one, among which is its path in each stable assignment: the choices of each part
--- are those of them that fit together
+-- of each router some paths that it may have, at least one, among which is its path in each stable assignment: the
+-- choices of each part are those of them that fit together
 pub record ChooseAmong (p : Problem) (parts : List Component) : Type 0 where
   pub may : ℕ → List (List ℕ)
   pub some : (u : ℕ) → IsRouter p.net.routers u → 0 < length (may u)
+  pub stand : (u : ℕ) → IsRouter p.net.routers u
+      → (table : Table) × IsTableOf p.net u table × All (MayStand p.net.links p.prefix table) (may u)
   pub has : (paths : ℕ → List ℕ) → IsStable p paths → (u : ℕ) → IsRouter p.net.routers u → Contains (may u) (paths u)
   pub choices : All (AreChoices p may) parts
 
@@ -80,7 +83,7 @@ pub record IsEveryStable (p : Problem) (every : Every) : Type 0 where
   -- a part follows only where one that doesn't has no choice or several
   pub needed : Any (λ part. part.follows ≡ true) every.parts
       → Any (λ part. (part.follows ≡ false) × (length (choices_of part) ≢ 1)) every.parts
-  -- where none is stable too
+  -- also where none is stable
   pub among : ChooseAmong p every.parts
 
 -- the number of choices of a part; 1 if it follows

@@ -1,7 +1,7 @@
 //! Laws of the definitions of a search for stable assignments. Each is the contract of a function without work of its
 //! own.
 
-ghost use Rattle.stable_search.specs.Counting.{StableAreCounted, NoneWithoutOrigin};
+ghost use Rattle.stable_search.specs.Counting.{StableAreCounted, SeveralHaveNone, NoneWithoutOrigin};
 ghost use Rattle.stable_search.specs.Fits.{StableIsFitting};
 
 use stable_paths::laws::{best_by_rank_is_best, no_origin_no_path};
@@ -17,6 +17,11 @@ pub fn stable_is_fitting()
 /// one.
 pub fn stable_assignments_are_counted()
     ensures { StableAreCounted }
+{}
+
+/// A part without a choice has two routers or more: a router by itself has each of the paths that it may have.
+pub fn several_have_none()
+    ensures { SeveralHaveNone }
 {}
 
 /// If the origin does not originate the prefix, an assignment is stable exactly where no router has a path.

@@ -9,7 +9,7 @@ use super::searches::{LIMITS, Limit, counts, found, refuses};
 use super::stable_paths_tests::checked;
 use ranked_policy::{Asn, NetError, Network, Path};
 use stable_paths::{Assignment, Check};
-use stable_search::laws::stable_is_fitting;
+use stable_search::laws::{several_have_none, stable_is_fitting};
 use stable_search::{Component, Every, SearchLimits};
 use std::alloc::Global;
 use std::process::Abort;
@@ -431,8 +431,9 @@ fn too_few_steps_are_refused(rt: HostRuntime) -> Result<(), NetError> {
     refuses(&rt, rt.alloc(), &DISAGREE, &limits, Limit::Steps, &[2, 3])
 }
 
-// Calls the law once.
+// Calls the laws once.
 #[test]
-fn the_law_holds_at_a_type(_rt: HostRuntime) {
+fn the_laws_hold_at_a_type(_rt: HostRuntime) {
     stable_is_fitting();
+    several_have_none();
 }
