@@ -127,13 +127,16 @@ module _ (p : Problem) (is : IsInstance p) (law : StableIsFitting) (seats : List
   may_stand u router =
       let r = router_at p is law seats at each ways over sets values u router in
       let x = seat_is r.0 r.1 r.2 in
-      subst (λ (n : ℕ). (table : Table) × IsTableOf p.net n table × All (MayStand p.net.links p.prefix table) (may n)) r.3
-      (x.table, x.of, λ k d lt.
-      (let paths = kept r.1.values.items (get_or now r.0 0) 0 in
-      let path = get_or (may r.1.router) k d in
-      let c : Contains paths path = subst (λ (ys : List (List ℕ)). Contains ys path) (may_is r.0 r.1 r.2) (Contains-get_or (may r.1.router) k d lt) in
-      let v = has_kept r.1.values.items (get_or now r.0 0) 0 path c in
-      x.may path (v.j, v.inside, get_or_default r.1.values.items v.j path [] v.inside ∙ v.is)))
+      subst (λ (n : ℕ). (table : Table) × IsTableOf p.net n table × All (MayStand p.net.links p.prefix table) (may n)) r.3 (
+        x.table,
+        x.of,
+        λ k d lt.
+            (let paths = kept r.1.values.items (get_or now r.0 0) 0 in
+            let path = get_or (may r.1.router) k d in
+            let c : Contains paths path = subst (λ (ys : List (List ℕ)). Contains ys path) (may_is r.0 r.1 r.2) (Contains-get_or (may r.1.router) k d lt) in
+            let v = has_kept r.1.values.items (get_or now r.0 0) 0 path c in
+            x.may path (v.j, v.inside, get_or_default r.1.values.items v.j path [] v.inside ∙ v.is)),
+      )
 
   may_stable : (paths : ℕ → List ℕ) → IsStable p paths → (u : ℕ) → IsRouter p.net.routers u → Contains (may u) (paths u)
   may_stable paths stable u router =
