@@ -55,9 +55,10 @@ def network(routers, prefixes):
     return len(links), "\n".join(lines) + "\n"
 
 
-def ranked(routers, paths, prefixes, every=1, seed=7):
+def ranked(routers, paths, prefixes, every=1, alike=False, seed=7):
     """A network of which each router but the origin has a rule of so many paths, which grow outwards from it at random;
-    none has one where there are to be no paths. Or one router in so many has a rule, of paths of at most 4 routers."""
+    none has one where there are to be no paths. Or one router in so many has a rule, of paths of at most 4 routers. One
+    router says its rule again for every second prefix, unless prefixes one behind the other are to be alike."""
     chosen = random.Random(seed)
     peers = {u: set() for u in range(1, routers + 1)}
     for u in range(2, routers + 1):
@@ -78,6 +79,9 @@ def ranked(routers, paths, prefixes, every=1, seed=7):
     lines += [f"origin 1 10.{k}.0.0/16" for k in range(prefixes)]
     lines += [" ".join([f"rank {u} 10.0.0.0/8", *("-".join(map(str, path)) for path in rows[u])])
               for u in peers if paths and u != 1 and u % every == 0]
+    if paths and not alike:
+        lines += [" ".join([f"rank {every * 2} 10.{k}.0.0/16", *("-".join(map(str, path)) for path in rows[every * 2])])
+                  for k in range(1, prefixes, 2)]
     return "\n".join(lines) + "\n"
 
 
@@ -131,15 +135,16 @@ def main():
                   f" {count / events:,.0f} | {memory:.1f} |", flush=True)
         print("\n| Routers | A rule in | Paths a rule | Prefixes | Million instructions | For a prefix | MB |")
         print("|---|---|---|---|---|---|---|")
-        for routers, paths, prefixes, every in [(n, 32, 16, 1) for n in (8, 16, 32, 64)] \
-                + [(64, k, 16, 1) for k in (4, 8, 16)] + [(64, 32, 64, 1), (64, 0, 256, 1)] \
-                + [(n, 8, 16, 4) for n in (8, 16, 32, 64)]:
+        for routers, paths, prefixes, every, alike in [(n, 32, 16, 1, False) for n in (8, 16, 32, 64)] \
+                + [(64, k, 16, 1, False) for k in (4, 8, 16)] \
+                + [(64, 32, 64, 1, False), (64, 32, 64, 1, True), (64, 0, 256, 1, True)] \
+                + [(n, 8, 16, 4, False) for n in (8, 16, 32, 64)]:
             name = os.path.join(folder, "text")
             with open(name, "w") as out:
-                out.write(ranked(routers, paths, prefixes, every))
+                out.write(ranked(routers, paths, prefixes, every, alike))
             count, memory = cost(program, "safe", name, folder)
-            print(f"| {routers} | {every} | {paths} | {prefixes} | {count / 1e6:.1f} | {count / prefixes:,.0f} |"
-                  f" {memory:.1f} |", flush=True)
+            print(f"| {routers} | {every} | {paths} | {prefixes}{', alike' if alike else ''} | {count / 1e6:.1f} |"
+                  f" {count / prefixes:,.0f} | {memory:.1f} |", flush=True)
 
 
 main()
