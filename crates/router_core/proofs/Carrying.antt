@@ -76,9 +76,9 @@ pub record Changes (r : RouterView) (v i : ℕ) (p q : Peer) : Type 0 where
 -- the tables are still those of the sides
 pub record Tracks (r : RouterView) (v : ℕ) (q : Peer) (t : RibView) : Type 0 where
   pub leaves : Leaves r.tables t v
-  pub follows : Follows r.net.origins t v (side q.end)
-  pub fresh : IsFresh (side q.end)
-  pub width : (side q.end).width ≡ r.net.settings.width
+  pub follows : Follows r.net.origins t v (side q.side)
+  pub fresh : IsFresh (side q.side)
+  pub width : (side q.side).width ≡ r.net.settings.width
   pub sent : (y : ℕ) (x : PrefixView) → IsPathWord (word_of t.sent y x)
   pub short : (y : ℕ) (x : PrefixView) → IsShort r.net.settings.width (word_of t.heard y x)
 
@@ -94,20 +94,20 @@ module _ (r : RouterView) (v i : ℕ) (p q : Peer) (c : Changes r v i p q) where
   named : q.number ≡ v
   named = c.number ∙ ap (λ (w : Peer). w.number) c.here ∙ number_here r.peers v i p c.place
 
-  pub found : side p.end ≡ sides_of r v
-  found = ap (λ (w : Peer). side w.end) c.here ∙ sym (side_here (side_opening (config_of r.net) r.net.settings.width) r.peers v i p c.place)
+  pub found : side p.side ≡ sides_of r v
+  found = ap (λ (w : Peer). side w.side) c.here ∙ sym (side_here (side_opening (config_of r.net) r.net.settings.width) r.peers v i p c.place)
 
   -- what is known of its side
   pub is_peer : IsSound r → linked r.net r.number v ≡ true
   is_peer s = sym (s.links v) ∙ is_listed r.peers v i c.place
 
-  pub is_fresh : IsSound r → IsFresh (side p.end)
+  pub is_fresh : IsSound r → IsFresh (side p.side)
   is_fresh s = subst IsFresh (sym found) (s.tabled.fresh v)
 
-  pub has_width : IsSound r → (side p.end).width ≡ r.net.settings.width
+  pub has_width : IsSound r → (side p.side).width ≡ r.net.settings.width
   has_width s = ap (λ (y : Side). y.width) found ∙ s.tabled.width v
 
-  pub is_followed : IsSound r → Follows r.net.origins r.tables v (side p.end)
+  pub is_followed : IsSound r → Follows r.net.origins r.tables v (side p.side)
   is_followed s = subst (Follows r.net.origins r.tables v) (sym found) (s.tabled.peers v (is_peer s))
 
   module _ (t : RibView) (m : MarkView) (stamp : ℕ) where
@@ -169,7 +169,7 @@ module _ (r : RouterView) (v i : ℕ) (p q : Peer) (c : Changes r v i p q) where
       marked = marked s n;
     }
 
-    sides_now : (f : Side → Side) → side q.end ≡ f (side p.end) → sides_of (with_peer r i q t m stamp) ≡ changed (sides_of r) v f
+    sides_now : (f : Side → Side) → side q.side ≡ f (side p.side) → sides_of (with_peer r i q t m stamp) ≡ changed (sides_of r) v f
     sides_now f is = sides_set (side_opening (config_of r.net) r.net.settings.width) r.peers v i q f c.place named (is ∙ ap f found)
 
     -- the plain router, by its sides, tables and recording
@@ -182,13 +182,13 @@ module _ (r : RouterView) (v i : ℕ) (p q : Peer) (c : Changes r v i p q) where
         ∙ ap (λ (y : Snapshots). record { router = record { sides = sides; kept = path_of r.tables.kept; originated = lists r.tables.originated; snapshots = y }; stamp = stamp }) ex
 
     -- it carries a draft out
-    pub moves : (h : AtHand) (a : Draft) → side q.end ≡ carried h (side p.end) a → Leaves r.tables t v
+    pub moves : (h : AtHand) (a : Draft) → side q.side ≡ carried h (side p.side) a → Leaves r.tables t v
         → snapshots_of m ≡ seen a.acts h v (closed (close_at v a.left) (snapshots_of r.marks))
         → plain_of (with_peer r i q t m stamp) ≡ record { router = moved (plain_of r).router v h a; stamp = stamp }
     moves h a is l x = plain_by (changed (sides_of r) v (λ s. carried h s a)) (seen a.acts h v (closed (close_at v a.left) (snapshots_of r.marks))) (sides_now (λ s. carried h s a) is) l x
 
     -- its front is taken away, and a draft carried out
-    pub fronts : (h : AtHand) (a : Draft) → side q.end ≡ carried h (without_front (side p.end)) a → Leaves r.tables t v
+    pub fronts : (h : AtHand) (a : Draft) → side q.side ≡ carried h (without_front (side p.side)) a → Leaves r.tables t v
         → snapshots_of m ≡ seen a.acts h v (closed (close_at v a.left) (snapshots_of r.marks))
         → plain_of (with_peer r i q t m stamp) ≡ record { router = moved (with_side (plain_of r).router v without_front) v h a; stamp = stamp }
     fronts h a is l x =
@@ -196,45 +196,45 @@ module _ (r : RouterView) (v i : ℕ) (p q : Peer) (c : Changes r v i p q) where
         (sides_now (λ s. carried h (without_front s) a) is ∙ twice_changed (sides_of r) v h a) l x
 
   -- it changes by a function, and all else stays
-  pub becomes : (stamp : ℕ) (f : Side → Side) → side q.end ≡ f (side p.end) → plain_of (with_peer r i q r.tables r.marks stamp) ≡ record { router = with_side (plain_of r).router v f; stamp = stamp }
+  pub becomes : (stamp : ℕ) (f : Side → Side) → side q.side ≡ f (side p.side) → plain_of (with_peer r i q r.tables r.marks stamp) ≡ record { router = with_side (plain_of r).router v f; stamp = stamp }
   becomes stamp f is = plain_by r.tables r.marks stamp (changed (sides_of r) v f) (snapshots_of r.marks) (sides_now r.tables r.marks stamp f is) (leaves_same r.tables v) refl
 
   -- it is what it was
-  pub kept : (m : MarkView) → side q.end ≡ side p.end → snapshots_of m ≡ snapshots_of r.marks → plain_of (with_peer r i q r.tables m r.stamp) ≡ plain_of r
+  pub kept : (m : MarkView) → side q.side ≡ side p.side → snapshots_of m ≡ snapshots_of r.marks → plain_of (with_peer r i q r.tables m r.stamp) ≡ plain_of r
   kept m is x = plain_by r.tables m r.stamp (sides_of r) (snapshots_of r.marks) (sides_now r.tables m r.stamp (λ s. s) is ∙ unchanged (sides_of r) v) (leaves_same r.tables v) x
 
   -- octets that are held or wait to be put are nothing to the tables
-  pub tracks_alike : IsSound r → (side q.end).session ≡ (side p.end).session → (side q.end).link ≡ (side p.end).link → (side q.end).acted ≡ (side p.end).acted → (side q.end).sent ≡ (side p.end).sent
-      → (side q.end).width ≡ (side p.end).width → Tracks r v q r.tables
+  pub tracks_alike : IsSound r → (side q.side).session ≡ (side p.side).session → (side q.side).link ≡ (side p.side).link → (side q.side).acted ≡ (side p.side).acted → (side q.side).sent ≡ (side p.side).sent
+      → (side q.side).width ≡ (side p.side).width → Tracks r v q r.tables
   tracks_alike s x l a b w =
       let state = ap (λ (y : SessionView). y.state) x in
       record {
         leaves = leaves_same r.tables v;
-        follows = follows_alike r.net.origins r.tables v (side p.end) (side q.end) state l a b (is_followed s);
-        fresh = fresh_alike (side p.end) (side q.end) state l a b (is_fresh s);
+        follows = follows_alike r.net.origins r.tables v (side p.side) (side q.side) state l a b (is_followed s);
+        fresh = fresh_alike (side p.side) (side q.side) state l a b (is_fresh s);
         width = w ∙ has_width s;
         sent = s.tabled.sent;
         short = s.tabled.short;
       }
 
   -- a draft without an UPDATE is carried out, and the tables follow its session
-  pub tracks_moved : IsSound r → (a : Draft) (t : RibView) → KeepsFresh (sides_of r v) NoMessage a → side q.end ≡ carried NoMessage (side p.end) a
-      → Followed r.tables t v (standing (side p.end)) (standing (side q.end)) → Tracks r v q t
+  pub tracks_moved : IsSound r → (a : Draft) (t : RibView) → KeepsFresh (sides_of r v) NoMessage a → side q.side ≡ carried NoMessage (side p.side) a
+      → Followed r.tables t v (standing (side p.side)) (standing (side q.side)) → Tracks r v q t
   tracks_moved s a t k is f =
-      let z = carried NoMessage (side p.end) a in
+      let z = carried NoMessage (side p.side) a in
       let h = subst (λ (y : Side). KeepsFresh y NoMessage a) (sym found) k in
-      let on : Followed r.tables t v (standing (side p.end)) (standing z) = subst (λ (y : Side). Followed r.tables t v (standing (side p.end)) (standing y)) is f in
-      let none = nothing_acted a.acts a.link.epoch (side p.end).acted in
+      let on : Followed r.tables t v (standing (side p.side)) (standing z) = subst (λ (y : Side). Followed r.tables t v (standing (side p.side)) (standing y)) is f in
+      let none = nothing_acted a.acts a.link.epoch (side p.side).acted in
       record {
-        leaves = leaves r.tables t v (standing (side p.end)) (standing (side q.end)) f;
+        leaves = leaves r.tables t v (standing (side p.side)) (standing (side q.side)) f;
         follows =
             subst (Follows r.net.origins t v) (sym is)
-            (follows_by r.net.origins v (side p.end) z none refl r.tables t (is_up (side p.end)) (is_up z) refl refl h.onward
+            (follows_by r.net.origins v (side p.side) z none refl r.tables t (is_up (side p.side)) (is_up z) refl refl h.onward
             (λ up b. let n = h.up up b in (ap (λ (us : ℕ → List Update). us a.link.epoch) none ∙ n.0, n.1)) (is_followed s) on);
         fresh = subst IsFresh (sym is) h.fresh;
         width = ap (λ (y : Side). y.width) is ∙ has_width s;
-        sent = all_sent IsPathWord refl r.tables t v (standing (side p.end)) (standing (side q.end)) f s.tabled.sent;
-        short = all_heard (IsShort r.net.settings.width) tt r.tables t v (standing (side p.end)) (standing (side q.end)) f s.tabled.short;
+        sent = all_sent IsPathWord refl r.tables t v (standing (side p.side)) (standing (side q.side)) f s.tabled.sent;
+        short = all_heard (IsShort r.net.settings.width) tt r.tables t v (standing (side p.side)) (standing (side q.side)) f s.tabled.short;
       }
 
 -- ---- a router in a setting of its network
@@ -268,17 +268,17 @@ ends_give g u false false r x y z call e is h = rw is h
 
 -- what the code drafts of a peer's side is what the definitions draft of it
 pub drafted : (g : Setting) (r : RouterView) (v i : ℕ) (p : Peer) (F : Message → Side → Draft) (a : Draft) → IsOf g r → IsAt r.peers v i → p ≡ get_or r.peers i p
-    → a ≡ F r.own_open (side p.end) → a ≡ F (open_of g.net r.number) (sides_of r v)
+    → a ≡ F r.own_open (side p.side) → a ≡ F (open_of g.net r.number) (sides_of r v)
 drafted g r v i p F a of at here made =
-    let s : side p.end ≡ sides_of r v = ap (λ (w : Peer). side w.end) here ∙ sym (side_here (side_opening (config_of r.net) r.net.settings.width) r.peers v i p at) in
-    made ∙ ap (λ (m : Message). F m (side p.end)) of.own_open ∙ ap (F (open_of g.net r.number)) s
+    let s : side p.side ≡ sides_of r v = ap (λ (w : Peer). side w.side) here ∙ sym (side_here (side_opening (config_of r.net) r.net.settings.width) r.peers v i p at) in
+    made ∙ ap (λ (m : Message). F m (side p.side)) of.own_open ∙ ap (F (open_of g.net r.number)) s
 
 -- and it keeps histories fresh where the definitions' does
 pub keeps_here : (r : RouterView) (v i : ℕ) (p : Peer) → IsAt r.peers v i → p ≡ get_or r.peers i p → IsSound r → (a b : Draft) → a ≡ b
-    → (IsFresh (side p.end) → KeepsFresh (side p.end) NoMessage b) → KeepsFresh (sides_of r v) NoMessage a
+    → (IsFresh (side p.side) → KeepsFresh (side p.side) NoMessage b) → KeepsFresh (sides_of r v) NoMessage a
 keeps_here r v i p at here s a b e k =
-    let f : side p.end ≡ sides_of r v = ap (λ (w : Peer). side w.end) here ∙ sym (side_here (side_opening (config_of r.net) r.net.settings.width) r.peers v i p at) in
-    subst (λ (y : Side). KeepsFresh y NoMessage a) f (subst (KeepsFresh (side p.end) NoMessage) (sym e) (k (subst IsFresh (sym f) (s.tabled.fresh v))))
+    let f : side p.side ≡ sides_of r v = ap (λ (w : Peer). side w.side) here ∙ sym (side_here (side_opening (config_of r.net) r.net.settings.width) r.peers v i p at) in
+    subst (λ (y : Side). KeepsFresh y NoMessage a) f (subst (KeepsFresh (side p.side) NoMessage) (sym e) (k (subst IsFresh (sym f) (s.tabled.fresh v))))
 
 -- a call whose event is the draft of one side, carried out
 pub one_step : (g : Setting) (r : RouterView) (y : Stamped) (v : ℕ) (h : AtHand) (a b : Draft) (stamp : ℕ) (call : Call) (e : RouterEvent) (res : Result Stepped RouterError) (o : Draft → Bool) → a ≡ b
@@ -302,7 +302,7 @@ module _ (g : Setting) (r : RouterView) (y : Stamped) (v i : ℕ) (p : Peer) (a 
   pub commanded : (c : Command) (F : Message → Side → Draft) (o : Draft → Bool)
       → answer g r.number (plain_of r) (Obey c) ≡ judged (unless (linked g.net r.number v) error.NoSuchPeer) (Some (alone (Obeys c))) (nat_lt GREATEST_STAMP (r.stamp + 1)) (o (F (open_of g.net r.number) (sides_of r v)))
       → stamped_after g r.number (plain_of r) (Obey c) (alone (Obeys c)) ≡ record { router = moved (plain_of r).router v NoMessage (F (open_of g.net r.number) (sides_of r v)); stamp = r.stamp + 1 }
-      → a ≡ F r.own_open (side p.end) → Ended (o a) (r.stamp + 1) → Gives g r.number res (answer g r.number (plain_of r) (Obey c)) (plain_of r) (Obey c) y
+      → a ≡ F r.own_open (side p.side) → Ended (o a) (r.stamp + 1) → Gives g r.number res (answer g r.number (plain_of r) (Obey c)) (plain_of r) (Obey c) y
   commanded c F o answers after made ends =
       let b = F (open_of g.net r.number) (sides_of r v) in
       rw (answers, is_linked g r v true of l)

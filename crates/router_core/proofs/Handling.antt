@@ -193,30 +193,30 @@ module _ (s : Side) (h : AtHand) (a : Draft) (up : ComesUpUnsaid s a) (acts : Ac
   unsaid_by false e t d = up t d
 
 module _ (word_follows : WordFollows) (r : RouterView) (v i : ℕ) (p q : Peer) (c : Changes r v i p q) (sound : IsSound r) (t : RibView) (x y : Snapshots) where
-  tracks_draft : (h : AtHand) (a : Draft) (between : RibView) → side q.end ≡ carried h (without_front (side p.end)) a → Hears r.tables between v (update_acted a.acts h)
-      → Followed between t v (standing (side p.end)) (standing (side q.end)) → IsFresh (carried h (without_front (side p.end)) a) → ComesUpUnsaid (side p.end) a
-      → (side p.end).link.epoch ≤ a.link.epoch → ActsWhereUp (side p.end) a → IsShortAt r.net.settings.width h → Tracks r v q t
+  tracks_draft : (h : AtHand) (a : Draft) (between : RibView) → side q.side ≡ carried h (without_front (side p.side)) a → Hears r.tables between v (update_acted a.acts h)
+      → Followed between t v (standing (side p.side)) (standing (side q.side)) → IsFresh (carried h (without_front (side p.side)) a) → ComesUpUnsaid (side p.side) a
+      → (side p.side).link.epoch ≤ a.link.epoch → ActsWhereUp (side p.side) a → IsShortAt r.net.settings.width h → Tracks r v q t
   tracks_draft h a between is hears f fresh up onward acts short =
-      let s = side p.end in
+      let s = side p.side in
       let z = carried h (without_front s) a in
       let l : Side = record s { acted = acted_with a.acts h a.link.epoch s.acted } in
       let on : Followed between t v (standing s) (standing z) = subst (λ (w : Side). Followed between t v (standing s) (standing w)) is f in
       let before = leaves_hearing r.tables between v (update_acted a.acts h) hears in
       let heard = follows_hearing word_follows r.net.origins v s a.link.epoch r.tables between a.acts h (λ k. let w = acts k in (w.0, w.2)) (ap (λ (n : Plan). n.origins) sound.tabled.net) hears (is_followed r v i p q c sound) in
       record {
-        leaves = leaves_then r.tables between t v before (leaves between t v (standing s) (standing (side q.end)) f);
+        leaves = leaves_then r.tables between t v before (leaves between t v (standing s) (standing (side q.side)) f);
         follows =
             subst (Follows r.net.origins t v) (sym is)
             (follows_by r.net.origins v l z refl refl between t (is_up l) (is_up z) refl refl onward (λ k d. unsaid_by s h a up acts a.acts refl k d) heard on);
         fresh = subst IsFresh (sym is) fresh;
         width = ap (λ (y : Side). y.width) is ∙ has_width r v i p q c sound;
-        short = all_heard (IsShort r.net.settings.width) tt between t v (standing s) (standing (side q.end)) f (short_hearing word_follows r.net.settings.width r.tables between v a.acts h hears short sound.tabled.short);
-        sent = all_sent IsPathWord refl between t v (standing s) (standing (side q.end)) f (λ w k. subst IsPathWord (sym (sent_hearing r.tables between v (update_acted a.acts h) hears w k)) (sound.tabled.sent w k));
+        short = all_heard (IsShort r.net.settings.width) tt between t v (standing s) (standing (side q.side)) f (short_hearing word_follows r.net.settings.width r.tables between v a.acts h hears short sound.tabled.short);
+        sent = all_sent IsPathWord refl between t v (standing s) (standing (side q.side)) f (λ w k. subst IsPathWord (sym (sent_hearing r.tables between v (update_acted a.acts h) hears w k)) (sound.tabled.sent w k));
       }
 
-  pub tracks_handled : HandlingKeepsFresh r.own_open (front (rule_of r.net r.number v) (side p.end).held) (side p.end) → HandlesFront r.own_open (rule_of r.net r.number v) v (side p.end) (side q.end) r.tables t x y → Tracks r v q t
+  pub tracks_handled : HandlingKeepsFresh r.own_open (front (rule_of r.net r.number v) (side p.side).held) (side p.side) → HandlesFront r.own_open (rule_of r.net r.number v) v (side p.side) (side q.side) r.tables t x y → Tracks r v q t
   tracks_handled k h =
-      let s = side p.end in
+      let s = side p.side in
       let m = front (rule_of r.net r.number v) s.held in
       let d = draft_message r.own_open m s in
       let back : d ≡ h.draft = sym h.draft_is in
@@ -227,6 +227,6 @@ module _ (word_follows : WordFollows) (r : RouterView) (v i : ℕ) (p q : Peer) 
       (subst (λ (a : Draft). ActsWhereUp s a) back k.acts)
       (subst (IsShortAt r.net.settings.width) (sym h.hand_is) (short_at (rule_of r.net r.number v) m h.writable))
 
-  pub leaves_handled : HandlesFront r.own_open (rule_of r.net r.number v) v (side p.end) (side q.end) r.tables t x y → Leaves r.tables t v
+  pub leaves_handled : HandlesFront r.own_open (rule_of r.net r.number v) v (side p.side) (side q.side) r.tables t x y → Leaves r.tables t v
   leaves_handled h =
-      leaves_then r.tables h.between t v (leaves_hearing r.tables h.between v (update_acted h.draft.acts h.hand) h.hears) (leaves h.between t v (standing (side p.end)) (standing (side q.end)) h.follows)
+      leaves_then r.tables h.between t v (leaves_hearing r.tables h.between v (update_acted h.draft.acts h.hand) h.hears) (leaves h.between t v (standing (side p.side)) (standing (side q.side)) h.follows)

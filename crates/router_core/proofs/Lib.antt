@@ -21,7 +21,7 @@ pub mod Serving
 pub mod Showing
 pub mod Taking
 pub mod Handling
-pub mod HearingRoutes
+pub mod HearingTold
 pub mod Marking
 pub mod Recording
 pub mod Snapshots

@@ -11,15 +11,15 @@ use Rattle.router_core.specs.Recorded.{Become, HaveRoomToMark}
 abbrev pub Passed : (Side → Side) → ℕ → List Peer → List Peer → Type 0
 Passed f zero ps qs = qs ≡ ps
 Passed f (suc i) [] [] = Unit {0}
-Passed f (suc i) (p ∷ ps) (q ∷ qs) = (q.number ≡ p.number) × (side q.end ≡ f (side p.end)) × Passed f i ps qs
+Passed f (suc i) (p ∷ ps) (q ∷ qs) = (q.number ≡ p.number) × (side q.side ≡ f (side p.side)) × Passed f i ps qs
 Passed f (suc i) [] (q ∷ qs) = ⊥
 Passed f (suc i) (p ∷ ps) [] = ⊥
 
-pub passed_on : (f : Side → Side) (i : ℕ) (ps qs : List Peer) (d q : Peer) → Passed f i ps qs → i < length qs → q.number ≡ (get_or qs i d).number → side q.end ≡ f (side (get_or qs i d).end)
+pub passed_on : (f : Side → Side) (i : ℕ) (ps qs : List Peer) (d q : Peer) → Passed f i ps qs → i < length qs → q.number ≡ (get_or qs i d).number → side q.side ≡ f (side (get_or qs i d).side)
     → Passed f (suc i) ps (set qs i q)
 passed_on f i ps [] d q h l n s = absurd (omega (arith, l))
 passed_on f zero [] (r ∷ qs) d q h l n s = absurd cc
-passed_on f zero (p ∷ ps) (r ∷ qs) d q h l n s = (n ∙ ap (λ (xs : List Peer). (get_or xs 0 d).number) h, s ∙ ap (λ (xs : List Peer). f (side (get_or xs 0 d).end)) h, ap (drop 1) h)
+passed_on f zero (p ∷ ps) (r ∷ qs) d q h l n s = (n ∙ ap (λ (xs : List Peer). (get_or xs 0 d).number) h, s ∙ ap (λ (xs : List Peer). f (side (get_or xs 0 d).side)) h, ap (drop 1) h)
 passed_on f (suc i) [] (r ∷ qs) d q h l n s = absurd h
 passed_on f (suc i) (p ∷ ps) (r ∷ qs) d q h l n s = (h.0, h.1, passed_on f i ps qs d q h.2 (omega (arith, l)) n s)
 
@@ -60,14 +60,14 @@ written_back P f ps qs n many b h = subst P (sym (take_at qs (drop (length qs) p
 abbrev pub RoomBelow : ℕ → List Peer → Type 0
 RoomBelow zero ps = Unit {0}
 RoomBelow (suc i) [] = Unit {0}
-RoomBelow (suc i) (p ∷ ps) = HasRoomToMark p.end × RoomBelow i ps
+RoomBelow (suc i) (p ∷ ps) = HasRoomToMark p.side × RoomBelow i ps
 
 abbrev pub RoomFrom : ℕ → List Peer → Type 0
 RoomFrom zero ps = HaveRoomToMark ps
 RoomFrom (suc i) [] = Unit {0}
 RoomFrom (suc i) (p ∷ ps) = RoomFrom i ps
 
-pub room_more : (i : ℕ) (ps : List Peer) (q : Peer) → RoomBelow i ps → HasRoomToMark q.end → RoomBelow (suc i) (set ps i q)
+pub room_more : (i : ℕ) (ps : List Peer) (q : Peer) → RoomBelow i ps → HasRoomToMark q.side → RoomBelow (suc i) (set ps i q)
 room_more i [] q h r = tt
 room_more zero (p ∷ ps) q h r = (r, tt)
 room_more (suc i) (p ∷ ps) q h r = (h.0, room_more i ps q h.1 r)
@@ -77,7 +77,7 @@ room_all i [] h l = tt
 room_all zero (p ∷ ps) h l = absurd (omega (arith, l))
 room_all (suc i) (p ∷ ps) h l = (h.0, room_all i ps h.1 (omega (arith, l)))
 
-pub room_here : (i : ℕ) (ps : List Peer) (d : Peer) → RoomFrom i ps → i < length ps → HasRoomToMark (get_or ps i d).end
+pub room_here : (i : ℕ) (ps : List Peer) (d : Peer) → RoomFrom i ps → i < length ps → HasRoomToMark (get_or ps i d).side
 room_here i [] d h l = absurd (omega (arith, l))
 room_here zero (p ∷ ps) d h l = h.0
 room_here (suc i) (p ∷ ps) d h l = room_here i ps d h (omega (arith, l))
@@ -92,11 +92,11 @@ room_behind (suc i) (p ∷ ps) q h = room_behind i ps q h
 next : (i : ℕ) → i + 1 ≡ suc i
 next i = omega arith
 
-pub passed_next : (f : Side → Side) (i : ℕ) (ps qs : List Peer) (d q : Peer) → Passed f i ps qs → i < length qs → q.number ≡ (get_or qs i d).number → side q.end ≡ f (side (get_or qs i d).end)
+pub passed_next : (f : Side → Side) (i : ℕ) (ps qs : List Peer) (d q : Peer) → Passed f i ps qs → i < length qs → q.number ≡ (get_or qs i d).number → side q.side ≡ f (side (get_or qs i d).side)
     → Passed f (i + 1) ps (set qs i q)
 passed_next f i ps qs d q h l n s = subst (λ (k : ℕ). Passed f k ps (set qs i q)) (sym (next i)) (passed_on f i ps qs d q h l n s)
 
-pub room_next : (i : ℕ) (ps : List Peer) (q : Peer) → RoomBelow i ps → HasRoomToMark q.end → RoomBelow (i + 1) (set ps i q)
+pub room_next : (i : ℕ) (ps : List Peer) (q : Peer) → RoomBelow i ps → HasRoomToMark q.side → RoomBelow (i + 1) (set ps i q)
 room_next i ps q h r = subst (λ (k : ℕ). RoomBelow k (set ps i q)) (sym (next i)) (room_more i ps q h r)
 
 pub room_left : (i : ℕ) (ps : List Peer) (q : Peer) → RoomFrom i ps → RoomFrom (i + 1) (set ps i q)

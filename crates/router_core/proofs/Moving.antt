@@ -76,13 +76,13 @@ passed_long f (suc i) (p ∷ ps) (q ∷ qs) h = ap suc (passed_long f i ps qs h.
 
 module _ (D : Side → Draft) where
   abbrev left_of : Peer → Option (ℕ × ℕ)
-  left_of p = close_at p.number (D (side p.end)).left
+  left_of p = close_at p.number (D (side p.side)).left
 
   -- the first of the first peers
   abbrev pub left_below : ℕ → List Peer → Option (ℕ × ℕ)
   left_below zero ps = None
   left_below (suc i) [] = None
-  left_below (suc i) (p ∷ ps) = or_first (close_at p.number (D (side p.end)).left) (left_below i ps)
+  left_below (suc i) (p ∷ ps) = or_first (close_at p.number (D (side p.side)).left) (left_below i ps)
 
   or_all : (a b c : Option (ℕ × ℕ)) → or_first a (or_first b c) ≡ or_first (or_first a b) c
   or_all None b c = refl
@@ -143,13 +143,13 @@ module _ (D : Side → Draft) where
     rest_rises : (p : Peer) (ps : List Peer) → Rises (p ∷ ps) → Rises ps
     rest_rises p ps r = λ i j d lt le. r (suc i) (suc j) d (omega (arith, lt)) (omega (arith, le))
 
-    at_front : (p : Peer) (ps : List Peer) → side_at none (p ∷ ps) p.number ≡ side p.end
+    at_front : (p : Peer) (ps : List Peer) → side_at none (p ∷ ps) p.number ≡ side p.side
     at_front p ps = rw (eq-eqb p.number p.number refl) refl
 
     pub overflow_is : (ps : List Peer) → Rises ps → overflow_in D ps ≡ list_any (λ v. (D (side_at none ps v)).overflows) (map (λ p. p.number) ps)
     overflow_is [] r = refl
     overflow_is (p ∷ ps) r =
-        ap (λ (b : Bool). (D (side p.end)).overflows || b) (overflow_is ps (rest_rises p ps r)
+        ap (λ (b : Bool). (D (side p.side)).overflows || b) (overflow_is ps (rest_rises p ps r)
         ∙ sym (any_same (λ v. (D (side_at none (p ∷ ps) v)).overflows) (λ v. (D (side_at none ps v)).overflows) (map (λ q. q.number) ps) (λ k d l. ap (λ (s : Side). (D s).overflows) (behind p ps r k d l))))
         ∙ ap (λ (s : Side). (D s).overflows || list_any (λ v. (D (side_at none (p ∷ ps) v)).overflows) (map (λ q. q.number) ps)) (sym (at_front p ps))
 
@@ -164,10 +164,10 @@ module _ (D : Side → Draft) where
   or_parts true c h = absurd cc
   or_parts false c h = (refl, h)
 
-  pub fits_here : (ps : List Peer) (i : ℕ) (d : Peer) → overflow_in D ps ≡ false → i < length ps → (D (side (get_or ps i d).end)).overflows ≡ false
+  pub fits_here : (ps : List Peer) (i : ℕ) (d : Peer) → overflow_in D ps ≡ false → i < length ps → (D (side (get_or ps i d).side)).overflows ≡ false
   fits_here [] i d h l = absurd (omega (arith, l))
-  fits_here (p ∷ ps) zero d h l = (or_parts (D (side p.end)).overflows (overflow_in D ps) h).0
-  fits_here (p ∷ ps) (suc i) d h l = fits_here ps i d (or_parts (D (side p.end)).overflows (overflow_in D ps) h).1 (omega (arith, l))
+  fits_here (p ∷ ps) zero d h l = (or_parts (D (side p.side)).overflows (overflow_in D ps) h).0
+  fits_here (p ∷ ps) (suc i) d h l = fits_here ps i d (or_parts (D (side p.side)).overflows (overflow_in D ps) h).1 (omega (arith, l))
 
 -- ---- the peer at a place, by its number
 

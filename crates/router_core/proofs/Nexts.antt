@@ -98,10 +98,10 @@ module _ (x : RouterView) (sound : IsSound x) where
     link : linked x.net x.number p.number ≡ true
     link = sym (sound.links p.number) ∙ is_listed x.peers p.number i at
 
-    here : side p.end ≡ sides_of x p.number
-    here = ap (λ (w : Peer). side w.end) is ∙ sym (side_here (side_opening (config_of x.net) x.net.settings.width) x.peers p.number i p at)
+    here : side p.side ≡ sides_of x p.number
+    here = ap (λ (w : Peer). side w.side) is ∙ sym (side_here (side_opening (config_of x.net) x.net.settings.width) x.peers p.number i p at)
 
-    octets : octets_waiting (sides_of x p.number).outbox ≡ octets_waiting (side p.end).outbox
+    octets : octets_waiting (sides_of x p.number).outbox ≡ octets_waiting (side p.side).outbox
     octets = ap (λ s. octets_waiting s.outbox) (sym here)
 
     waits_is : (found : Option PrefixView) → MatchOption found (HoldsOfAll x.tables.net.origins (IsServed x.tables p.number)) (IsLeastWithout x.tables.net.origins (IsServed x.tables p.number))
@@ -124,7 +124,7 @@ module _ (x : RouterView) (sound : IsSound x) where
       or_some None c = refl
       or_some (Some v) c = refl
 
-      pub past_full : nat_lt (octets_waiting (side p.end).outbox) OUTBOX_LIMIT ≡ false → (blocked : Option ℕ) → Looked x i blocked → Looked x (i + 1) (option_or blocked (Some p.number))
+      pub past_full : nat_lt (octets_waiting (side p.side).outbox) OUTBOX_LIMIT ≡ false → (blocked : Option ℕ) → Looked x i blocked → Looked x (i + 1) (option_or blocked (Some p.number))
       past_full full blocked k =
           let no_room : has_room_at x p.number ≡ false = rw (waits, octets, full) refl in
           let first : find (waits_at x) (numbers_from x.peers i) ≡ Some p.number = find_on (waits_at x) x.peers i p lt is ∙ rw waits refl in
@@ -136,7 +136,7 @@ module _ (x : RouterView) (sound : IsSound x) where
       may_tell : MayTell x i q
       may_tell = record { peer = p.number; place = at; waits = sym (untold_is (unchosen x.net) x sound refl p.number link (Some q) least) }
 
-      pub is_next : nat_lt (octets_waiting (side p.end).outbox) OUTBOX_LIMIT ≡ true → (blocked : Option ℕ) → Looked x i blocked → (place : ℕ) → IsNamedAt x.net q place → IsNext x (next.Peer i place q)
+      pub is_next : nat_lt (octets_waiting (side p.side).outbox) OUTBOX_LIMIT ≡ true → (blocked : Option ℕ) → Looked x i blocked → (place : ℕ) → IsNamedAt x.net q place → IsNext x (next.Peer i place q)
       unfolding may_tell
       is_next free blocked k place named =
           let room : has_room_at x p.number ≡ true = rw (waits, octets, free) refl in

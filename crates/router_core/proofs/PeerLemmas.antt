@@ -54,7 +54,7 @@ seek_by false ps v e = none_first ps v (grind (arith, nat_tests, e))
 pub seek : (ps : List Peer) (v : ℕ) → MatchOption (position (is_number v) ps) (listed v ps ≡ false) (IsFound ps v)
 seek ps v = seek_by (nat_lt (position_or_len (is_number v) ps) (length ps)) ps v refl
 
-pub side_here : (none : Side) (ps : List Peer) (v i : ℕ) (d : Peer) → IsAt ps v i → side_at none ps v ≡ side (get_or ps i d).end
+pub side_here : (none : Side) (ps : List Peer) (v i : ℕ) (d : Peer) → IsAt ps v i → side_at none ps v ≡ side (get_or ps i d).side
 side_here none [] v i d h = absurd h
 side_here none (p ∷ ps) v zero d h = rw (eq-eqb p.number v h) refl
 side_here none (p ∷ ps) v (suc i) d h = rw (ne_eqb p.number v h.0) (side_here none ps v i d h.1)
@@ -75,7 +75,7 @@ numbers_set (p ∷ ps) v zero q h e = ap (λ (n : ℕ). n ∷ map (λ (w : Peer)
 numbers_set (p ∷ ps) v (suc i) q h e = ap (λ (ns : List ℕ). p.number ∷ ns) (numbers_set ps v i q h.1 e)
 
 -- at the number it is the new side, elsewhere what it was
-pub set_here : (none : Side) (ps : List Peer) (v i : ℕ) (q : Peer) → IsAt ps v i → q.number ≡ v → side_at none (set ps i q) v ≡ side q.end
+pub set_here : (none : Side) (ps : List Peer) (v i : ℕ) (q : Peer) → IsAt ps v i → q.number ≡ v → side_at none (set ps i q) v ≡ side q.side
 set_here none [] v i q h e = absurd h
 set_here none (p ∷ ps) v zero q h e = rw (eq-eqb q.number v e) refl
 set_here none (p ∷ ps) v (suc i) q h e = rw (ne_eqb p.number v h.0) (set_here none ps v i q h.1 e)
@@ -83,19 +83,19 @@ set_here none (p ∷ ps) v (suc i) q h e = rw (ne_eqb p.number v h.0) (set_here 
 pub set_there : (none : Side) (ps : List Peer) (v i : ℕ) (q : Peer) (y : ℕ) → IsAt ps v i → q.number ≡ v → (y ≡ v → ⊥) → side_at none (set ps i q) y ≡ side_at none ps y
 set_there none [] v i q y h e n = absurd h
 set_there none (p ∷ ps) v zero q y h e n = rw (ne_eqb q.number y (λ k. n (sym k ∙ e)), ne_eqb p.number y (λ k. n (sym k ∙ h))) refl
-set_there none (p ∷ ps) v (suc i) q y h e n = ap (λ (s : Side). cond (p.number == y) (side p.end) s) (set_there none ps v i q y h.1 e n)
+set_there none (p ∷ ps) v (suc i) q y h e n = ap (λ (s : Side). cond (p.number == y) (side p.side) s) (set_there none ps v i q y h.1 e n)
 
 abbrev pub changed : (ℕ → Side) → ℕ → (Side → Side) → ℕ → Side
 changed sides v f = λ y. cond (y == v) (f (sides y)) (sides y)
 
-changed_at : (none : Side) (ps : List Peer) (v i : ℕ) (q : Peer) (f : Side → Side) → IsAt ps v i → q.number ≡ v → side q.end ≡ f (side_at none ps v)
+changed_at : (none : Side) (ps : List Peer) (v i : ℕ) (q : Peer) (f : Side → Side) → IsAt ps v i → q.number ≡ v → side q.side ≡ f (side_at none ps v)
     → (y : ℕ) (b : Bool) → (y == v) ≡ b → side_at none (set ps i q) y ≡ cond b (f (side_at none ps y)) (side_at none ps y)
 changed_at none ps v i q f h e is y true t =
     let same : y ≡ v = eqb-true y v t in
     ap (λ (n : ℕ). side_at none (set ps i q) n) same ∙ set_here none ps v i q h e ∙ is ∙ ap (λ (n : ℕ). f (side_at none ps n)) (sym same)
 changed_at none ps v i q f h e is y false t = set_there none ps v i q y h e (eqb-false y v t)
 
-pub sides_set : (none : Side) (ps : List Peer) (v i : ℕ) (q : Peer) (f : Side → Side) → IsAt ps v i → q.number ≡ v → side q.end ≡ f (side_at none ps v)
+pub sides_set : (none : Side) (ps : List Peer) (v i : ℕ) (q : Peer) (f : Side → Side) → IsAt ps v i → q.number ≡ v → side q.side ≡ f (side_at none ps v)
     → side_at none (set ps i q) ≡ changed (side_at none ps) v f
 sides_set none ps v i q f h e is = fun_ext (λ y. changed_at none ps v i q f h e is y (y == v) refl)
 
@@ -127,7 +127,7 @@ here_same (p ∷ ps) v (suc i) d e h = here_same ps v i d e h.1
 -- ---- the peers as they are made
 
 -- a side that is that of no peer, wherever it is looked at
-pub all_none : (none : Side) (ps : List Peer) (v : ℕ) → AllByRecursion (λ p. side p.end ≡ none) ps → side_at none ps v ≡ none
+pub all_none : (none : Side) (ps : List Peer) (v : ℕ) → AllByRecursion (λ p. side p.side ≡ none) ps → side_at none ps v ≡ none
 all_none none [] v h = refl
 all_none none (p ∷ ps) v h = rw (h.0, all_none none ps v h.1) (same_by (p.number == v) none)
 

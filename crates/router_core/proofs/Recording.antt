@@ -81,7 +81,7 @@ rest_seen : (x y : Seen) (xs ys : List Seen) → (x ∷ xs) ≡ (y ∷ ys) → x
 rest_seen x y xs ys h = ap (drop 1) h
 
 abbrev as_seen : Option ℕ → Peer → Seen
-as_seen first p = record { peer = p.number; epoch = (side p.end).link.epoch; is_open = awaits_marker first p.number; updates = [] }
+as_seen first p = record { peer = p.number; epoch = (side p.side).link.epoch; is_open = awaits_marker first p.number; updates = [] }
 
 pub peers_as : (first : Option ℕ) (cs : List Channel) (ps : List Peer) → map seen cs ≡ channels_of first ps → peers_of cs ≡ map (λ p. p.number) ps
 peers_as first [] [] h = refl
@@ -109,8 +109,8 @@ epochs_as none first (c ∷ cs) (p ∷ ps) z h v =
     let test : (v == c.peer) ≡ (p.number == v) = ap (λ (s : Seen). v == s.peer) one ∙ turned v p.number in
     epoch_here (p.number == v) (v == c.peer) test (ap (λ (s : Seen). s.epoch) one) rest
   where
-    epoch_here : (b t : Bool) → t ≡ b → c.epoch ≡ (side p.end).link.epoch → epoch_in cs v ≡ (side_at none ps v).link.epoch
-        → cond t c.epoch (epoch_in cs v) ≡ (cond b (side p.end) (side_at none ps v)).link.epoch
+    epoch_here : (b t : Bool) → t ≡ b → c.epoch ≡ (side p.side).link.epoch → epoch_in cs v ≡ (side_at none ps v).link.epoch
+        → cond t c.epoch (epoch_in cs v) ≡ (cond b (side p.side) (side_at none ps v)).link.epoch
     epoch_here true t e x r = rw e x
     epoch_here false t e x r = rw e r
 
@@ -167,14 +167,14 @@ down_here none p ps r =
 rest_rises : (p : Peer) (ps : List Peer) → Rises (p ∷ ps) → Rises ps
 rest_rises p ps r = λ i j d lt le. r (suc i) (suc j) d (omega (arith, lt)) (omega (arith, le))
 
-down_by : (none : Side) (p : Peer) (ps : List Peer) (b : Bool) → is_up (side p.end) ≡ b → down_in ps ≡ find (λ v. not (is_up (side_at none (p ∷ ps) v))) (map (λ q. q.number) ps)
+down_by : (none : Side) (p : Peer) (ps : List Peer) (b : Bool) → is_up (side p.side) ≡ b → down_in ps ≡ find (λ v. not (is_up (side_at none (p ∷ ps) v))) (map (λ q. q.number) ps)
     → cond b (down_in ps) (Some p.number) ≡ cond (not (is_up (side_at none (p ∷ ps) p.number))) (Some p.number) (find (λ v. not (is_up (side_at none (p ∷ ps) v))) (map (λ q. q.number) ps))
 down_by none p ps true e h = rw (eq-eqb p.number p.number refl, e) h
 down_by none p ps false e h = rw (eq-eqb p.number p.number refl, e) refl
 
 pub down_is : (none : Side) (ps : List Peer) → Rises ps → down_in ps ≡ find (λ v. not (is_up (side_at none ps v))) (map (λ p. p.number) ps)
 down_is none [] r = refl
-down_is none (p ∷ ps) r = down_by none p ps (is_up (side p.end)) refl (down_is none ps (rest_rises p ps r) ∙ sym (down_here none p ps r))
+down_is none (p ∷ ps) r = down_by none p ps (is_up (side p.side)) refl (down_is none ps (rest_rises p ps r) ∙ sym (down_here none p ps r))
 
 -- ---- peers that change
 
@@ -199,8 +199,8 @@ become_sides f none [] [] h v = refl
 become_sides f none [] (q ∷ qs) h v = absurd h
 become_sides f none (p ∷ ps) [] h v = absurd h
 become_sides f none (p ∷ ps) (q ∷ qs) h v =
-    ap (λ (n : ℕ). cond (n == v) (side q.end) (side_at none qs v)) h.0 ∙ ap (λ (s : Side). cond (p.number == v) s (side_at none qs v)) h.1
-    ∙ become_by f (p.number == v) (listed v ps) (side p.end) (side_at none ps v) (side_at none qs v) (become_sides f none ps qs h.2 v)
+    ap (λ (n : ℕ). cond (n == v) (side q.side) (side_at none qs v)) h.0 ∙ ap (λ (s : Side). cond (p.number == v) s (side_at none qs v)) h.1
+    ∙ become_by f (p.number == v) (listed v ps) (side p.side) (side_at none ps v) (side_at none qs v) (become_sides f none ps qs h.2 v)
 
 marked_by : (b c : Bool) (s : ℕ) (x : Side) → is_up x ≡ c → cond b (cond c (marked s x) x) x ≡ cond (b && c) (marked s x) x
 marked_by true c s x e = refl

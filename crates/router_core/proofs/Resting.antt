@@ -30,8 +30,8 @@ neither true c h = absurd cc
 neither false c h = (refl, h)
 
 -- what runs out of the first peer, and of the others
-none_of : (p : Peer) (ps : List Peer) → runs_out_in (p ∷ ps) ≡ false → (runs_out (side p.end).session ≡ None) × (runs_out_in ps ≡ false)
-none_of p ps h = (let both = neither (is_some (runs_out (side p.end).session)) (runs_out_in ps) h in (is_none (runs_out (side p.end).session) both.0, both.1))
+none_of : (p : Peer) (ps : List Peer) → runs_out_in (p ∷ ps) ≡ false → (runs_out (side p.side).session ≡ None) × (runs_out_in ps ≡ false)
+none_of p ps h = (let both = neither (is_some (runs_out (side p.side).session)) (runs_out_in ps) h in (is_none (runs_out (side p.side).session) both.0, both.1))
 
 -- the draft of such a second moves the timers alone
 is_counted : (o : Message) (s : Side) → runs_out s.session ≡ None → counted_down s ≡ carried NoMessage s (draft_second o s)
@@ -43,21 +43,21 @@ are_counted : (o : Message) (ps qs : List Peer) → runs_out_in ps ≡ false →
 are_counted o [] [] h b = tt
 are_counted o [] (q ∷ qs) h b = absurd b
 are_counted o (p ∷ ps) [] h b = absurd b
-are_counted o (p ∷ ps) (q ∷ qs) h b = (let none = none_of p ps h in (b.0, b.1 ∙ is_counted o (side p.end) none.0, are_counted o ps qs none.1 b.2))
+are_counted o (p ∷ ps) (q ∷ qs) h b = (let none = none_of p ps h in (b.0, b.1 ∙ is_counted o (side p.side) none.0, are_counted o ps qs none.1 b.2))
 
 -- it dials nothing
 pub counting_fits : (o : Message) (ps : List Peer) → runs_out_in ps ≡ false → overflow_in (draft_second o) ps ≡ false
 counting_fits o [] h = refl
 counting_fits o (p ∷ ps) h =
     let none = none_of p ps h in
-    ap (λ (e : Option FsmEvent). (expires o (draft_of (ticked (side p.end).session) (side p.end).link) e).overflows || overflow_in (draft_second o) ps) none.0 ∙ counting_fits o ps none.1
+    ap (λ (e : Option FsmEvent). (expires o (draft_of (ticked (side p.side).session) (side p.side).link) e).overflows || overflow_in (draft_second o) ps) none.0 ∙ counting_fits o ps none.1
 
 -- and leaves no session
 counting_leaves : (o : Message) (ps : List Peer) → runs_out_in ps ≡ false → first_left (draft_second o) ps ≡ None
 counting_leaves o [] h = refl
 counting_leaves o (p ∷ ps) h =
     let none = none_of p ps h in
-    ap (λ (e : Option FsmEvent). or_first (close_at p.number (expires o (draft_of (ticked (side p.end).session) (side p.end).link) e).left) (first_left (draft_second o) ps)) none.0 ∙ counting_leaves o ps none.1
+    ap (λ (e : Option FsmEvent). or_first (close_at p.number (expires o (draft_of (ticked (side p.side).session) (side p.side).link) e).left) (first_left (draft_second o) ps)) none.0 ∙ counting_leaves o ps none.1
 
 counted_alike : Alike counted_down
 counted_alike = record { state = λ s. refl; link = λ s. refl; acted = λ s. refl; sent = λ s. refl; width = λ s. refl }

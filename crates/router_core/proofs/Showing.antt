@@ -8,10 +8,10 @@ use Rattle.router_core.specs.Views.{RouterView, IsFound, sides_of, config_of}
 use Rattle.router_core.specs.Shown.{of_peer}
 use Rattle.router_core.proofs.PeerLemmas.{side_here}
 
-pub stands : (r x : RouterView) (v i : ℕ) (p : Peer) → r ≡ x → IsFound x.peers v i → p ≡ get_or r.peers i p → sides_of x v ≡ side p.end
+pub stands : (r x : RouterView) (v i : ℕ) (p : Peer) → r ≡ x → IsFound x.peers v i → p ≡ get_or r.peers i p → sides_of x v ≡ side p.side
 stands r x v i p same found is =
     let place = subst (λ (y : RouterView). IsFound y.peers v i) (sym same) found in
-    ap (λ (y : RouterView). sides_of y v) (sym same) ∙ side_here (side_opening (config_of r.net) r.net.settings.width) r.peers v i p place.2 ∙ ap (λ (w : Peer). side w.end) (sym is)
+    ap (λ (y : RouterView). sides_of y v) (sym same) ∙ side_here (side_opening (config_of r.net) r.net.settings.width) r.peers v i p place.2 ∙ ap (λ (w : Peer). side w.side) (sym is)
 
-pub shown : {A : Type 0} (r x : RouterView) (v i : ℕ) (p : Peer) (says : Side → A) → r ≡ x → IsFound x.peers v i → linked x.net x.number v ≡ true → p ≡ get_or r.peers i p → Some (says (side p.end)) ≡ of_peer x v says
+pub shown : {A : Type 0} (r x : RouterView) (v i : ℕ) (p : Peer) (says : Side → A) → r ≡ x → IsFound x.peers v i → linked x.net x.number v ≡ true → p ≡ get_or r.peers i p → Some (says (side p.side)) ≡ of_peer x v says
 shown r x v i p says same found links is = rw links (ap (λ (s : Side). Some (says s)) (sym (stands r x v i p same found is)))

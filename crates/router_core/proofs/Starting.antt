@@ -27,7 +27,7 @@ use Rattle.router_core.proofs.PeerLemmas.{all_none}
 fresh_opening : (config : SessionConfig) (width : Width) → IsFresh (side_opening config width)
 fresh_opening config width = record { later = λ n h. (refl, refl); opening = λ h. (refl, refl); away = λ h. refl }
 
-module _ (net : Plan) (number : ℕ) (own_open : Message) (ps : List Peer) (t : RibView) (m : MarkView) (all : AllByRecursion (λ p. side p.end ≡ side_opening (config_of net) net.settings.width) ps)
+module _ (net : Plan) (number : ℕ) (own_open : Message) (ps : List Peer) (t : RibView) (m : MarkView) (all : AllByRecursion (λ p. side p.side ≡ side_opening (config_of net) net.settings.width) ps)
     (n : IsNew net number t) where
   abbrev made : RouterView
   made = record { net = net; number = number; own_open = own_open; peers = ps; tables = t; marks = m; stamp = 0 }

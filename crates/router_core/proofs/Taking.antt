@@ -71,12 +71,12 @@ fed_by false s octets = refl
 pub fed_is : (s : Side) (e : ℕ) (octets : List ℕ) → fed s e octets ≡ record s { held = cond (uses s.link e) (s.held ++ octets) s.held }
 fed_is s e octets = fed_by (uses s.link e) s (s.held ++ octets)
 
-pub stands_at : (r : RouterView) (v i : ℕ) (p : Peer) → IsAt r.peers v i → p ≡ get_or r.peers i p → sides_of r v ≡ side p.end
-stands_at r v i p at here = side_here (side_opening (config_of r.net) r.net.settings.width) r.peers v i p at ∙ ap (λ (w : Peer). side w.end) (sym here)
+pub stands_at : (r : RouterView) (v i : ℕ) (p : Peer) → IsAt r.peers v i → p ≡ get_or r.peers i p → sides_of r v ≡ side p.side
+stands_at r v i p at here = side_here (side_opening (config_of r.net) r.net.settings.width) r.peers v i p at ∙ ap (λ (w : Peer). side w.side) (sym here)
 
 module _ (g : Setting) (r : RouterView) (v i : ℕ) (p : Peer) (of : IsOf g r) (at : IsAt r.peers v i) (here : p ≡ get_or r.peers i p) (l : listed v r.peers ≡ true)
     (stamp : ℕ) where
-  stands : sides_of r v ≡ side p.end
+  stands : sides_of r v ≡ side p.side
   stands = stands_at r v i p at here
 
   abbrev pub next : ℕ
@@ -88,17 +88,17 @@ module _ (g : Setting) (r : RouterView) (v i : ℕ) (p : Peer) (of : IsOf g r) (
       (judged (first_of (unless t error.NoSuchPeer) (unless (not b) (error.Held v))) (Some (takes v what)) (nat_lt GREATEST_STAMP next) (overflows_at g r.number (plain_of r).router (Some (takes v what))))
       (plain_of r) (Take v stamp what) y
 
-  take_is : (what : What) (res : Result Stepped RouterError) (y : Stamped) (b : Bool) → is_waiting (side p.end).held ≡ b → Takes what res y true b
+  take_is : (what : What) (res : Result Stepped RouterError) (y : Stamped) (b : Bool) → is_waiting (side p.side).held ≡ b → Takes what res y true b
       → Gives g r.number res (answer g r.number (plain_of r) (Take v stamp what)) (plain_of r) (Take v stamp what) y
   take_is what res y b is h =
       subst (λ (t : Bool). Takes what res y t (is_waiting (sides_of r v).held)) (sym (is_linked g r v true of l))
       (subst (λ (w : Bool). Takes what res y true w) (sym (ap (λ (s : Side). is_waiting s.held) stands ∙ is)) h)
 
-  pub takes_held : (what : What) → is_waiting (side p.end).held ≡ true → Gives g r.number (Err (error.Held v)) (answer g r.number (plain_of r) (Take v stamp what)) (plain_of r) (Take v stamp what) (plain_of r)
+  pub takes_held : (what : What) → is_waiting (side p.side).held ≡ true → Gives g r.number (Err (error.Held v)) (answer g r.number (plain_of r) (Take v stamp what)) (plain_of r) (Take v stamp what) (plain_of r)
   takes_held what h = take_is what (Err (error.Held v)) (plain_of r) true h (refl, refl)
 
-  module _ (y : Stamped) (a : Draft) (res : Result Stepped RouterError) (e : ℕ) (free : is_waiting (side p.end).held ≡ false) where
-    pub takes_dial : a ≡ draft_sign r.own_open (side p.end) (sign.Dial e)
+  module _ (y : Stamped) (a : Draft) (res : Result Stepped RouterError) (e : ℕ) (free : is_waiting (side p.side).held ≡ false) where
+    pub takes_dial : a ≡ draft_sign r.own_open (side p.side) (sign.Dial e)
         → Ends (nat_lt GREATEST_STAMP next) a.overflows res (plain_of r) (record { router = moved (plain_of r).router v NoMessage a; stamp = next }) y
         → Gives g r.number res (answer g r.number (plain_of r) (Take v stamp (item.Dial e))) (plain_of r) (Take v stamp (item.Dial e)) y
     takes_dial made ends =
@@ -106,7 +106,7 @@ module _ (g : Setting) (r : RouterView) (v i : ℕ) (p : Peer) (of : IsOf g r) (
         (one_step g r y v NoMessage a (draft_sign (open_of g.net r.number) (sides_of r v) (sign.Dial e)) next (Take v stamp (item.Dial e)) (takes v (item.Dial e)) res (λ w. w.overflows)
         (drafted g r v i p (λ o s. draft_sign o s (sign.Dial e)) a of at here made) refl ends)
 
-    pub takes_shut : a ≡ draft_sign r.own_open (side p.end) (sign.Shut e)
+    pub takes_shut : a ≡ draft_sign r.own_open (side p.side) (sign.Shut e)
         → Ends (nat_lt GREATEST_STAMP next) false res (plain_of r) (record { router = moved (plain_of r).router v NoMessage a; stamp = next }) y
         → Gives g r.number res (answer g r.number (plain_of r) (Take v stamp (item.Shut e))) (plain_of r) (Take v stamp (item.Shut e)) y
     takes_shut made ends =
@@ -114,28 +114,28 @@ module _ (g : Setting) (r : RouterView) (v i : ℕ) (p : Peer) (of : IsOf g r) (
         (one_step g r y v NoMessage a (draft_sign (open_of g.net r.number) (sides_of r v) (sign.Shut e)) next (Take v stamp (item.Shut e)) (takes v (item.Shut e)) res (λ w. false)
         (drafted g r v i p (λ o s. draft_sign o s (sign.Shut e)) a of at here made) refl ends)
 
-  late_is : (what : What) (res : Result Stepped RouterError) (y : Stamped) (late : Bool) → is_waiting (side p.end).held ≡ false → nat_lt GREATEST_STAMP next ≡ late
+  late_is : (what : What) (res : Result Stepped RouterError) (y : Stamped) (late : Bool) → is_waiting (side p.side).held ≡ false → nat_lt GREATEST_STAMP next ≡ late
       → Gives g r.number res (judged None (Some (takes v what)) late (overflows_at g r.number (plain_of r).router (Some (takes v what)))) (plain_of r) (Take v stamp what) y
       → Gives g r.number res (answer g r.number (plain_of r) (Take v stamp what)) (plain_of r) (Take v stamp what) y
   late_is what res y late free is h =
       take_is what res y false free
       (subst (λ (b : Bool). Gives g r.number res (judged None (Some (takes v what)) b (overflows_at g r.number (plain_of r).router (Some (takes v what)))) (plain_of r) (Take v stamp what) y) (sym is) h)
 
-  pub takes_late : (what : What) → is_waiting (side p.end).held ≡ false → nat_lt GREATEST_STAMP next ≡ true
+  pub takes_late : (what : What) → is_waiting (side p.side).held ≡ false → nat_lt GREATEST_STAMP next ≡ true
       → Gives g r.number (Err error.StampEnd) (answer g r.number (plain_of r) (Take v stamp what)) (plain_of r) (Take v stamp what) (plain_of r)
   takes_late what free late = late_is what (Err error.StampEnd) (plain_of r) true free late (refl, refl)
 
-  pub takes_piece : (e : ℕ) (octets : List ℕ) (q : Peer) → Changes r v i p q → side q.end ≡ fed (side p.end) e octets → is_waiting (side p.end).held ≡ false
+  pub takes_piece : (e : ℕ) (octets : List ℕ) (q : Peer) → Changes r v i p q → side q.side ≡ fed (side p.side) e octets → is_waiting (side p.side).held ≡ false
       → nat_lt GREATEST_STAMP next ≡ false
       → Gives g r.number (Ok stepped.Did) (answer g r.number (plain_of r) (Take v stamp (item.Piece e octets))) (plain_of r) (Take v stamp (item.Piece e octets)) (plain_of (with_peer r i q r.tables r.marks next))
   takes_piece e octets q c is free late =
       late_is (item.Piece e octets) (Ok stepped.Did) (plain_of (with_peer r i q r.tables r.marks next)) false free late (refl, becomes r v i p q c next (λ s. fed s e octets) is)
 
-  pub refuses_piece : (e : ℕ) (octets : List ℕ) → is_waiting (side p.end).held ≡ false → nat_lt GREATEST_STAMP next ≡ false
+  pub refuses_piece : (e : ℕ) (octets : List ℕ) → is_waiting (side p.side).held ≡ false → nat_lt GREATEST_STAMP next ≡ false
       → Gives g r.number (Err error.Memory) (answer g r.number (plain_of r) (Take v stamp (item.Piece e octets))) (plain_of r) (Take v stamp (item.Piece e octets)) (plain_of r)
   refuses_piece e octets free early = late_is (item.Piece e octets) (Err error.Memory) (plain_of r) false free early (refl, refl)
 
-  pub takes_mark : (res : Result Stepped RouterError) (y : Stamped) (e n : ℕ) → is_waiting (side p.end).held ≡ false → nat_lt GREATEST_STAMP next ≡ false
+  pub takes_mark : (res : Result Stepped RouterError) (y : Stamped) (e n : ℕ) → is_waiting (side p.side).held ≡ false → nat_lt GREATEST_STAMP next ≡ false
       → MatchResult res (λ did. (did ≡ stepped.Did) × (y ≡ record { router = taken g r.number (plain_of r).router v (item.Mark e n); stamp = next })) (λ why. (why ≡ error.Memory) × (y ≡ plain_of r))
       → Gives g r.number res (answer g r.number (plain_of r) (Take v stamp (item.Mark e n))) (plain_of r) (Take v stamp (item.Mark e n)) y
   takes_mark res y e n free late h = late_is (item.Mark e n) res y false free late h

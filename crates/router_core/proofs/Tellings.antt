@@ -87,15 +87,15 @@ module _ (x : RouterView) (sound : IsSound x) (v i : ℕ) (place : IsAt x.peers 
     marked = record { over = sound.marked.over; unfinished = sound.marked.unfinished; queue = sound.marked.queue };
   }
 
-  sides_with : (f : Side → Side) → side peer.end ≡ f (sides_of x v) → (t : RibView) (stamp : ℕ) → sides_of (with_peer_and_tables x i peer t stamp) ≡ changed (sides_of x) v f
+  sides_with : (f : Side → Side) → side peer.side ≡ f (sides_of x v) → (t : RibView) (stamp : ℕ) → sides_of (with_peer_and_tables x i peer t stamp) ≡ changed (sides_of x) v f
   sides_with f is t stamp = sides_set (side_opening (config_of x.net) x.net.settings.width) x.peers v i peer f place named is
 
   -- ---- nothing changes but the room
 
-  same_sides : side peer.end ≡ sides_of x v → (stamp : ℕ) → sides_of (with_peer_and_tables x i peer x.tables stamp) ≡ sides_of x
+  same_sides : side peer.side ≡ sides_of x v → (stamp : ℕ) → sides_of (with_peer_and_tables x i peer x.tables stamp) ≡ sides_of x
   same_sides is stamp = sides_with (λ s. s) is x.tables stamp ∙ unchanged (sides_of x) v
 
-  pub sound_still : side peer.end ≡ sides_of x v → IsSound (with_peer_and_tables x i peer x.tables x.stamp)
+  pub sound_still : side peer.side ≡ sides_of x v → IsSound (with_peer_and_tables x i peer x.tables x.stamp)
   sound_still is =
       let sides = same_sides is x.stamp in
       sound_with x.tables x.stamp sound.stamp (record {
@@ -111,7 +111,7 @@ module _ (x : RouterView) (sound : IsSound x) (v i : ℕ) (place : IsAt x.peers 
         originated = tabled.originated;
       })
 
-  pub plain_still : side peer.end ≡ sides_of x v → plain_of (with_peer_and_tables x i peer x.tables x.stamp) ≡ plain_of x
+  pub plain_still : side peer.side ≡ sides_of x v → plain_of (with_peer_and_tables x i peer x.tables x.stamp) ≡ plain_of x
   plain_still is = ap (λ (f : ℕ → Side). record { router = record (plain_of x).router { sides = f }; stamp = x.stamp }) (same_sides is x.stamp)
 
   -- ---- the kept path of a prefix is told
@@ -162,7 +162,7 @@ module _ (x : RouterView) (sound : IsSound x) (v i : ℕ) (place : IsAt x.peers 
         (tells.others w p (inr (λ same. not_from_Decides (is_prefix q p) (is_prefix-true q p, is_prefix-from q p) k (sym same)))) (tabled.sent w p)
     sent_by w p false b e k = path_told (word_of t.sent w p) (word_of x.tables.sent w p) (tells.others w p (inl (eqb-false w v e))) (tabled.sent w p)
 
-    module _ (is : side peer.end ≡ told (sides_of x v) u) (stamp : ℕ) where
+    module _ (is : side peer.side ≡ told (sides_of x v) u) (stamp : ℕ) where
       sides : (s : RibView) → sides_of (with_peer_and_tables x i peer s stamp) ≡ changed (sides_of x) v (λ (a : Side). told a u)
       sides s = sides_with (λ a. told a u) is s stamp
 

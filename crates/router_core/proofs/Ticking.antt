@@ -175,7 +175,7 @@ stop_fits o s = stop_by o s.session s.link s.session.state s.link.phase refl ref
 
 pub stops_fit : (o : Message) (ps : List Peer) → overflow_in (λ s. draft_event o s ManualStop) ps ≡ false
 stops_fit o [] = refl
-stops_fit o (p ∷ ps) = rw (stop_fits o (side p.end)) (stops_fit o ps)
+stops_fit o (p ∷ ps) = rw (stop_fits o (side p.side)) (stops_fit o ps)
 
 -- ---- peers with room, whose sides are as they were
 
@@ -183,7 +183,7 @@ pub overflow_alike : (D : Side → Draft) (ps qs : List Peer) → Become (λ s. 
 overflow_alike D [] [] b = refl
 overflow_alike D [] (q ∷ qs) b = absurd b
 overflow_alike D (p ∷ ps) [] b = absurd b
-overflow_alike D (p ∷ ps) (q ∷ qs) b = ap (λ (s : Side). (D s).overflows || overflow_in D qs) b.1 ∙ ap (λ (o : Bool). (D (side p.end)).overflows || o) (overflow_alike D ps qs b.2)
+overflow_alike D (p ∷ ps) (q ∷ qs) b = ap (λ (s : Side). (D s).overflows || overflow_in D qs) b.1 ∙ ap (λ (o : Bool). (D (side p.side)).overflows || o) (overflow_alike D ps qs b.2)
 
 pub prepared_sound : (r : RouterView) (qs : List Peer) → IsSound r → Become (λ s. s) r.peers qs → IsSound (with_peers r qs r.marks r.stamp)
 prepared_sound r qs s b =

@@ -54,10 +54,10 @@ module _ (x : RouterView) (sound : IsSound x) (i : ℕ) (q : PrefixView) (may : 
     pub place : IsAt x.peers p.number i
     place = subst (λ (n : ℕ). IsAt x.peers n i) same may.place
 
-    pub here : side p.end ≡ sides_of x p.number
-    here = ap (λ (w : Peer). side w.end) is ∙ sym (side_here (side_opening (config_of x.net) x.net.settings.width) x.peers p.number i p place)
+    pub here : side p.side ≡ sides_of x p.number
+    here = ap (λ (w : Peer). side w.side) is ∙ sym (side_here (side_opening (config_of x.net) x.net.settings.width) x.peers p.number i p place)
 
-    pub has_width : (side p.end).width ≡ x.net.settings.width
+    pub has_width : (side p.side).width ≡ x.net.settings.width
     has_width = ap (λ (s : Side). s.width) here ∙ sound.tabled.width p.number
 
     pub is_linked : Linked x.tables.net.links x.tables.router p.number

@@ -33,7 +33,7 @@ own_of origins originated = filter (lists originated) (map (λ origin. origin.pr
 abbrev pub channels_of : Option ℕ → List Peer → List Seen
 channels_of first ps = map (λ p. record {
   peer = p.number;
-  epoch = (side p.end).link.epoch;
+  epoch = (side p.side).link.epoch;
   is_open =
       awaits_marker first p.number;
   updates = [];
@@ -42,20 +42,20 @@ channels_of first ps = map (λ p. record {
 -- the first peer whose session is not Established
 abbrev pub down_in : List Peer → Option ℕ
 down_in [] = None
-down_in (p ∷ ps) = cond (is_up (side p.end)) (down_in ps) (Some p.number)
+down_in (p ∷ ps) = cond (is_up (side p.side)) (down_in ps) (Some p.number)
 
 -- each peer stays, and its side changes in this way
 abbrev pub Become : (Side → Side) → List Peer → List Peer → Type 0
 Become change [] [] = Unit {0}
 Become change (p ∷ ps) (other ∷ others) =
-    (other.number ≡ p.number) × (side other.end ≡ change (side p.end)) × Become change ps others
+    (other.number ≡ p.number) × (side other.side ≡ change (side p.side)) × Become change ps others
 Become change [] (other ∷ others) = ⊥
 Become change (p ∷ ps) [] = ⊥
 
 -- each side has room for a marker
 abbrev pub HaveRoomToMark : List Peer → Type 0
 HaveRoomToMark [] = Unit {0}
-HaveRoomToMark (p ∷ ps) = HasRoomToMark p.end × HaveRoomToMark ps
+HaveRoomToMark (p ∷ ps) = HasRoomToMark p.side × HaveRoomToMark ps
 
 -- the marker goes to a peer whose session is Established
 abbrev pub marked_if_up : ℕ → Side → Side

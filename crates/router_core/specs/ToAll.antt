@@ -37,12 +37,12 @@ IsCommanded event.Second v c = ⊥
 -- a dial of some side would pass the greatest incarnation
 abbrev pub overflow_in : (Side → Draft) → List Peer → Bool
 overflow_in D [] = false
-overflow_in D (p ∷ ps) = (D (side p.end)).overflows || overflow_in D ps
+overflow_in D (p ∷ ps) = (D (side p.side)).overflows || overflow_in D ps
 
 -- a timer of some session runs out in the next second
 abbrev pub runs_out_in : List Peer → Bool
 runs_out_in [] = false
-runs_out_in (p ∷ ps) = is_some (runs_out (side p.end).session) || runs_out_in ps
+runs_out_in (p ∷ ps) = is_some (runs_out (side p.side).session) || runs_out_in ps
 
 -- the timers of a session have one second less left
 abbrev pub counted_down : Side → Side
@@ -50,7 +50,7 @@ counted_down s = record s { session = ticked s.session }
 
 -- this is the draft of a side, which has room for it
 abbrev pub IsReady : Message → (Side → Draft) → Peer → SideDraft → Type 0
-IsReady own_open D p a = (draft own_open NoMessage a ≡ D (side p.end)) × HasRoom own_open None a p.end
+IsReady own_open D p a = (draft own_open NoMessage a ≡ D (side p.side)) × HasRoom own_open None a p.side
 
 -- these are the drafts of these sides
 abbrev pub AreReady : Message → (Side → Draft) → List Peer → List SideDraft → Type 0
@@ -62,7 +62,7 @@ AreReady own_open D (p ∷ ps) [] = ⊥
 -- the first of the peers whose session leaves Established
 abbrev pub first_left : (Side → Draft) → List Peer → Option (ℕ × ℕ)
 first_left D [] = None
-first_left D (p ∷ ps) = or_first (close_at p.number (D (side p.end)).left) (first_left D ps)
+first_left D (p ∷ ps) = or_first (close_at p.number (D (side p.side)).left) (first_left D ps)
 
 -- the sides and what is recorded changed, and the tables by the sessions
 pub record IsRest (x y : RouterView) : Type 0 where
@@ -78,8 +78,8 @@ pub record MovesSide (x : RouterView) (j : ℕ) (D : Side → Draft) (y : Router
   pub peer : Peer
   pub peers : y.peers ≡ set x.peers j peer
   pub number : (p : Peer) → peer.number ≡ (get_or x.peers j p).number
-  pub moved : (p : Peer) → side peer.end ≡ carried NoMessage (side (get_or x.peers j p).end) (D (side (get_or x.peers j p).end))
-  pub marks : (p : Peer) → snapshots_of y.marks ≡ closed (close_at (get_or x.peers j p).number (D (side (get_or x.peers j p).end)).left) (snapshots_of x.marks)
+  pub moved : (p : Peer) → side peer.side ≡ carried NoMessage (side (get_or x.peers j p).side) (D (side (get_or x.peers j p).side))
+  pub marks : (p : Peer) → snapshots_of y.marks ≡ closed (close_at (get_or x.peers j p).number (D (side (get_or x.peers j p).side)).left) (snapshots_of x.marks)
   pub rest : IsRest x y
 
 -- all sides are moved, rising

@@ -62,7 +62,7 @@ is_number v p = p.number == v
 -- the side towards a number, that of the first peer that bears it
 abbrev pub side_at : Side → List Peer → ℕ → Side
 side_at none [] v = none
-side_at none (p ∷ ps) v = cond (is_number v p) (side p.end) (side_at none ps v)
+side_at none (p ∷ ps) v = cond (is_number v p) (side p.side) (side_at none ps v)
 
 abbrev pub listed : ℕ → List Peer → Bool
 listed v [] = false

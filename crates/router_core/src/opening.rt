@@ -83,14 +83,14 @@ pub(crate) fn new_peers(
     requires { IsHoldTime config.hold }
     ensures numbers { IfOk result (λ made. map (λ p. p.number) made.items ≡ peers network.now number) }
     ensures sides { IfOk result
-        (λ made. AllByRecursion (λ p. side p.end ≡ side_opening config network.now.settings.width) made.items) }
+        (λ made. AllByRecursion (λ p. side p.side ≡ side_opening config network.now.settings.width) made.items) }
 {
     let mut made = Vec::new(alloc);
     for link in network.links_of(number) {
-        let end = Side::new(alloc, config, network.settings().width)?;
+        let side = Side::new(alloc, config, network.settings().width)?;
         made.push(Peer {
             number: link.other,
-            end,
+            side,
         })?;
     }
     Ok(made)

@@ -28,8 +28,8 @@ pub(crate) fn path_to_tell(
     requires named { IsNamed network.now.origins prefix.now }
     requires tellable { IsTellable network.now.settings.width path.now }
     ensures update { IfOk result
-        (λ route. route ≡ telling (identifier network.now.routers number) prefix.now path.now) }
-    ensures sayable { IfOk result (λ route. IsSayable network.now.settings.width (UpdateMsg route)) }
+        (λ told. told ≡ telling (identifier network.now.routers number) prefix.now path.now) }
+    ensures sayable { IfOk result (λ told. IsSayable network.now.settings.width (UpdateMsg told)) }
 {
     told_updates_are_sayable();
     // a length that was read is known to be at most 32 bits

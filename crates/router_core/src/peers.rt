@@ -11,7 +11,7 @@ use router_side::Side;
 #[derive(Drop)]
 pub(crate) struct Peer {
     pub number: Asn,
-    pub end: Side,
+    pub side: Side,
 }
 
 /// The place of a number.

@@ -23,7 +23,7 @@ use Rattle.bgp_codec.specs.Header.{IsFrame, HeaderIsItsFront, header_fault, leng
 use Rattle.bgp_codec.specs.Spelling.{written}
 use Rattle.router_model.specs.Sides.{Side, HasUpdate, is_up, is_established, front, read_front, draft_message, react, apply, carried, with_update, rest_behind, without_front}
 use Rattle.router_model.specs.State.{withdrawal, announcement, telling}
-use Rattle.router_side.specs.Acting.{UpdatesAreActedOn, TellingsAreSayable, IsToldBy, IsRouteInFront}
+use Rattle.router_side.specs.Acting.{UpdatesAreActedOn, TellingsAreSayable, IsToldBy, IsToldInFront}
 use Rattle.router_side.specs.Layout.{address, withdrawal_front, announcement_front, announcement_hop, IsWithdrawal, IsAnnouncement}
 use Rattle.router_side.specs.Sayings.{IsSayable}
 use Rattle.router_side.specs.SideOf.{acting}
@@ -134,7 +134,7 @@ module _ (law : PeersWritingIsRead) (width : Width) (peer : ℕ) (frame : List �
 
 -- ---- the frame in front
 
-pub in_front : HeaderIsItsFront → (width : Width) (peer : ℕ) (octets : List ℕ) (end : ℕ) (u : Update) → end ≤ length octets → IsFrame (take end octets) → IsToldBy width peer (take end octets) u → IsRouteInFront width peer octets u
+pub in_front : HeaderIsItsFront → (width : Width) (peer : ℕ) (octets : List ℕ) (end : ℕ) (u : Update) → end ≤ length octets → IsFrame (take end octets) → IsToldBy width peer (take end octets) u → IsToldInFront width peer octets u
 in_front its width peer octets end u inside is told =
     let len : length (take end octets) ≡ end = length-take-le end octets inside in
     let at = its end octets (omega (arith, len, is.has_header)) in

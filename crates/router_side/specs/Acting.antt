@@ -24,7 +24,7 @@ pub record IsToldBy (width : Width) (peer : ℕ) (frame : List ℕ) (update : Up
 
 -- the message in front of octets is a peer's UPDATE, which can be said: whoever reads it as the peer's reads this
 -- UPDATE
-pub record IsRouteInFront (width : Width) (peer : ℕ) (octets : List ℕ) (update : Update) : Type 0 where
+pub record IsToldInFront (width : Width) (peer : ℕ) (octets : List ℕ) (update : Update) : Type 0 where
   pub sayable : IsSayable width (UpdateMsg update)
   pub reads : (rule : Rule) → rule.width ≡ width → rule.peer ≡ Some peer → front rule octets ≡ Ok (UpdateMsg update)
 

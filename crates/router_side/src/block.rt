@@ -206,27 +206,27 @@ impl Block {
         &mut self,
         width: Width,
         epoch: u32,
-        route: &ToldPath,
+        told: &ToldPath,
         outbox: &mut Outbox,
     )
         requires kept { AreStored self.old.places.items self.old.octets.items }
-        requires sayable { IsSayable width (UpdateMsg route.now) }
-        requires room { vec_len self.old.octets + length (written width (UpdateMsg route.now))
+        requires sayable { IsSayable width (UpdateMsg told.now) }
+        requires room { vec_len self.old.octets + length (written width (UpdateMsg told.now))
             ≤ vec_capacity self.old.octets }
         requires place { vec_len self.old.places + 1 ≤ vec_capacity self.old.places }
-        requires waiting { length (written width (UpdateMsg route.now)) ≤ outbox.old.room }
+        requires waiting { length (written width (UpdateMsg told.now)) ≤ outbox.old.room }
         requires more { 1 ≤ outbox.old.places }
         ensures kept { AreStored self.new.places.items self.new.octets.items }
         ensures told { history (told_stored width self.new.places.items self.new.octets.items)
-            ≡ with_update (history (told_stored width self.old.places.items self.old.octets.items)) epoch route.now }
+            ≡ with_update (history (told_stored width self.old.places.items self.old.octets.items)) epoch told.now }
         ensures passing { outbox.new.passing
-            ≡ outbox.old.passing ++ octets_of epoch (written width (UpdateMsg route.now)) }
+            ≡ outbox.old.passing ++ octets_of epoch (written width (UpdateMsg told.now)) }
     {
         written_has_a_header();
         written_is_read();
         header_is_its_front();
         let before = self.octets.len();
-        match route.put(width, &mut self.octets) {
+        match told.put(width, &mut self.octets) {
             Some(front) => {
                 let (_, rest) = self.octets.split_at(before);
                 outbox.push_parts(epoch, &front, rest);

@@ -151,19 +151,19 @@ impl History {
         &mut self,
         width: Width,
         epoch: u32,
-        route: &ToldPath,
+        told: &ToldPath,
         outbox: &mut Outbox,
     )
-        requires sayable { IsSayable width (UpdateMsg route.now) }
-        requires room { length (written width (UpdateMsg route.now)) ≤ self.old.room }
+        requires sayable { IsSayable width (UpdateMsg told.now) }
+        requires room { length (written width (UpdateMsg told.now)) ≤ self.old.room }
         requires place { 1 ≤ self.old.places }
-        requires waiting { length (written width (UpdateMsg route.now)) ≤ outbox.old.room }
+        requires waiting { length (written width (UpdateMsg told.now)) ≤ outbox.old.room }
         requires more { 1 ≤ outbox.old.places }
         ensures told { history (told_with width self.new)
-            ≡ with_update (history (told_with width self.old)) epoch route.now }
+            ≡ with_update (history (told_with width self.old)) epoch told.now }
         ensures passing { outbox.new.passing
-            ≡ outbox.old.passing ++ octets_of epoch (written width (UpdateMsg route.now)) }
+            ≡ outbox.old.passing ++ octets_of epoch (written width (UpdateMsg told.now)) }
     {
-        self.last.keep_path(width, epoch, route, outbox);
+        self.last.keep_path(width, epoch, told, outbox);
     }
 }

@@ -48,8 +48,8 @@ pub fn read_frame(alloc: Global, frame: &[u8], rule: &Rule) -> Result<Decoded, A
     ensures told { IfOk result (λ read. IsSayableWhere rule.now.width (told_of (at_hand read))) }
 {
     if let Some(peer) = rule.peer {
-        if let Some(route) = ToldPath::read(alloc, rule.width, peer, frame)? {
-            return Ok(Ok(Message::UpdateMsg(route.into_update(alloc))));
+        if let Some(told) = ToldPath::read(alloc, rule.width, peer, frame)? {
+            return Ok(Ok(Message::UpdateMsg(told.into_update(alloc))));
         }
     }
     decode_frame(alloc, frame, rule)

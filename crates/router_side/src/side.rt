@@ -83,6 +83,13 @@ impl Side {
         self.session.state()
     }
 
+    /// The session, with its timers.
+    pub fn session(&self) -> Session
+        ensures { result ≡ (side self.now).session }
+    {
+        self.session
+    }
+
     /// The incarnation of the link: the last number that this end dialled, 0 at first.
     pub fn epoch(&self) -> u32
         ensures { result ≡ (side self.now).link.epoch }

@@ -272,7 +272,7 @@ impl ToldPath {
         path: &[Asn],
     ) -> Result<ToldPath, AllocError>
         requires { length path.now ≤ MOST_NUMBERS }
-        ensures ok { IfOk result (λ route. route ≡ telling id prefix.now path.now) }
+        ensures ok { IfOk result (λ told. told ≡ telling id prefix.now path.now) }
         ensures short { length path.now ≤ 8 → IsOk result }
     {
         Ok(ToldPath {

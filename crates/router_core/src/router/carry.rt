@@ -11,7 +11,7 @@ ghost use Rattle.router_model.specs.Step.{close_at};
 ghost use Rattle.router_side.specs.Sayings.{told_of, IsSayable, IsSayableWhere};
 ghost use Rattle.router_side.specs.Drafts.{draft, hand};
 ghost use Rattle.router_side.specs.Freshness.{KeepsFresh};
-ghost use Rattle.router_side.specs.SideOf.{side, IsInFront, HasRoom};
+ghost use Rattle.router_side.specs.SideOf.{side as side_of, IsInFront, HasRoom};
 ghost use Rattle.router_core.specs.Views.{sides_of, IsFound, IsSame, Carries};
 ghost use Rattle.router_core.specs.Calling.{NeedsRoom};
 ghost use Rattle.router_core.specs.Following.{standing, Followed};
@@ -43,29 +43,33 @@ pub(super) enum SessionEvent {
 }
 
 /// The draft of a side for such an event.
-pub(super) fn drafted(event: SessionEvent, end: &Side, own_open: &Message) -> SideDraft
-    ensures { draft own_open.now NoMessage result ≡ draft_by event own_open.now (side end.now) }
+pub(super) fn drafted(event: SessionEvent, side: &Side, own_open: &Message) -> SideDraft
+    ensures { draft own_open.now NoMessage result ≡ draft_by event own_open.now (side_of side.now) }
 {
     match event {
-        SessionEvent::Start => end.draft_event(own_open, FsmEvent::ManualStart),
-        SessionEvent::Stop => end.draft_event(own_open, FsmEvent::ManualStop),
-        SessionEvent::Reset => end.draft_reset(own_open),
-        SessionEvent::Second => end.draft_second(own_open),
+        SessionEvent::Start => side.draft_event(own_open, FsmEvent::ManualStart),
+        SessionEvent::Stop => side.draft_event(own_open, FsmEvent::ManualStop),
+        SessionEvent::Reset => side.draft_reset(own_open),
+        SessionEvent::Second => side.draft_second(own_open),
     }
 }
 
 /// The incarnation in which the session is Established, if it is.
-fn standing(end: &Side) -> Option<u32>
-    ensures { result ≡ standing (side end.now) }
+fn standing(side: &Side) -> Option<u32>
+    ensures { result ≡ standing (side_of side.now) }
 {
-    if end.is_up() { Some(end.epoch()) } else { None }
+    if side.is_up() {
+        Some(side.epoch())
+    } else {
+        None
+    }
 }
 
 /// Carries out the draft of an event that brings no message, for which there is room. The tables follow the session. It
 /// takes no memory.
 pub(super) fn carry(
     alloc: Global,
-    end: &mut Side,
+    side: &mut Side,
     tables: &mut Rib<'_>,
     peer_at: usize,
     peer: Asn,
@@ -74,13 +78,13 @@ pub(super) fn carry(
 )
     requires stands { slice_get (peers tables.old.net tables.old.router) peer_at ≡ Some peer }
     requires own { (w : widths.Width) → IsSayable w own_open.now }
-    requires room { HasRoom own_open.now None made.now end.old }
-    ensures side { side end.new ≡ carried NoMessage (side end.old) (draft own_open.now NoMessage made.now) }
-    ensures tables { Followed tables.old tables.new peer (standing (side end.old)) (standing (side end.new)) }
+    requires room { HasRoom own_open.now None made.now side.old }
+    ensures side { side_of side.new ≡ carried NoMessage (side_of side.old) (draft own_open.now NoMessage made.now) }
+    ensures tables { Followed tables.old tables.new peer (standing (side_of side.old)) (standing (side_of side.new)) }
 {
-    let was = standing(end);
-    end.commit(alloc, own_open, made);
-    let now = standing(end);
+    let was = standing(side);
+    side.commit(alloc, own_open, made);
+    let now = standing(side);
     follow(tables, peer_at, peer, was, now);
 }
 
@@ -91,24 +95,24 @@ pub(super) fn carry_front(
     own_open: &Message,
     given: Brought,
     made: &SideDraft,
-    end: &mut Side,
+    side: &mut Side,
     tables: &mut Rib<'_>,
     peer_at: usize,
     peer: Asn,
 )
     requires stands { slice_get (peers tables.old.net tables.old.router) peer_at ≡ Some peer }
     requires own { (w : widths.Width) → IsSayable w own_open.now }
-    requires told { IsSayableWhere (side end.old).width (told_of (hand given)) }
-    requires waits { is_waiting (side end.old).held ≡ true }
-    requires front { IsInFront (side end.old).width (side end.old).held (hand given) }
-    requires room { HasRoom own_open.now (told_of (hand given)) made.now end.old }
-    ensures side { side end.new
-        ≡ carried (hand given) (without_front (side end.old)) (draft own_open.now (hand given) made.now) }
-    ensures tables { Followed tables.old tables.new peer (standing (side end.old)) (standing (side end.new)) }
+    requires told { IsSayableWhere (side_of side.old).width (told_of (hand given)) }
+    requires waits { is_waiting (side_of side.old).held ≡ true }
+    requires front { IsInFront (side_of side.old).width (side_of side.old).held (hand given) }
+    requires room { HasRoom own_open.now (told_of (hand given)) made.now side.old }
+    ensures side { side_of side.new
+        ≡ carried (hand given) (without_front (side_of side.old)) (draft own_open.now (hand given) made.now) }
+    ensures tables { Followed tables.old tables.new peer (standing (side_of side.old)) (standing (side_of side.new)) }
 {
-    let was = standing(end);
-    end.commit_front(alloc, own_open, given, made);
-    let now = standing(end);
+    let was = standing(side);
+    side.commit_front(alloc, own_open, given, made);
+    let now = standing(side);
     follow(tables, peer_at, peer, was, now);
 }
 
@@ -152,13 +156,13 @@ impl Router<'_> {
         room?;
         let alloc = *self.peers.allocator();
         let nothing = Brought::Nothing;
-        let end = &mut self.peers[peer_at].end;
-        if end.reserve(&self.own_open, &nothing, made).is_err() {
+        let side = &mut self.peers[peer_at].side;
+        if side.reserve(&self.own_open, &nothing, made).is_err() {
             return Err(RouterError::Memory);
         }
         carry(
             alloc,
-            end,
+            side,
             &mut self.tables,
             peer_at,
             peer,

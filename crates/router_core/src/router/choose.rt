@@ -80,7 +80,7 @@ impl Router<'_> {
             let Some(found) = self.tables.waiting_at(peer_at, peer.number) else {
                 continue;
             };
-            if peer.end.octets_waiting() < OUTBOX_LIMIT {
+            if peer.side.octets_waiting() < OUTBOX_LIMIT {
                 return Next::Peer(peer_at, found.0, found.1);
             }
             blocked = blocked.or(Some(peer.number));
@@ -137,17 +137,17 @@ impl Router<'_> {
         let stamp = next_stamp_with_room(self.stamp, room)?;
         let alloc = *self.peers.allocator();
         let path = self.tables.path_at(prefix_at, prefix);
-        let Ok(route) = path_to_tell(alloc, self.network, self.number, prefix, path) else {
+        let Ok(told) = path_to_tell(alloc, self.network, self.number, prefix, path) else {
             return Err(RouterError::Memory);
         };
-        let Peer { number, end } = &mut self.peers[peer_at];
-        let Ok(()) = end.reserve_path(&route) else {
+        let Peer { number, side } = &mut self.peers[peer_at];
+        let Ok(()) = side.reserve_path(&told) else {
             return Err(RouterError::Memory);
         };
         let Ok(()) = self.tables.tell_at(peer_at, *number, prefix_at, prefix) else {
             return Err(RouterError::Memory);
         };
-        end.tell_path(&route);
+        side.tell_path(&told);
         self.stamp = stamp;
         Ok(Stepped::Did)
     }

@@ -74,7 +74,7 @@ impl Router<'_> {
         let Some(peer_at) = self.find(peer) else {
             return Err(RouterError::NoSuchPeer);
         };
-        let made = drafted(event, &self.peers[peer_at].end, &self.own_open);
+        let made = drafted(event, &self.peers[peer_at].side, &self.own_open);
         let stamp = self.stamp + 1;
         self.carry_out(peer, peer_at, &made, stamp, room)
     }

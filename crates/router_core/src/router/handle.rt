@@ -12,7 +12,7 @@ ghost use Rattle.router_model.specs.Settings.{peers};
 ghost use Rattle.router_model.specs.Step.{close_at};
 ghost use Rattle.router_side.specs.Drafts.{hand};
 ghost use Rattle.router_side.specs.Sayings.{IsSayable};
-ghost use Rattle.router_side.specs.SideOf.{side, naming};
+ghost use Rattle.router_side.specs.SideOf.{side as side_of, naming};
 ghost use Rattle.snap_marker.specs.Parts.{snapshots_of, is_heard, HasRoom, IsLink, IsOver, AreOf};
 ghost use Rattle.snap_marker.specs.Recordings.{closed};
 
@@ -94,7 +94,7 @@ fn record(marks: &mut MarkState, peer: Asn, left: Option<u32>, copy: Option<Upda
 fn handle_front(
     alloc: Global,
     rule: &Rule,
-    end: &mut Side,
+    side: &mut Side,
     tables: &mut Rib<'_>,
     marks: &mut MarkState,
     own_open: &Message,
@@ -103,13 +103,13 @@ fn handle_front(
 ) -> Result<(), AllocError>
     requires stands { slice_get (peers tables.old.net tables.old.router) peer_at ≡ Some peer }
     requires own { (w : widths.Width) → IsSayable w own_open.now }
-    requires rule { (own : ℕ) × (rule.now ≡ naming (side end.old).width own peer) }
-    requires waits { is_waiting (side end.old).held ≡ true }
+    requires rule { (own : ℕ) × (rule.now ≡ naming (side_of side.old).width own peer) }
+    requires waits { is_waiting (side_of side.old).held ≡ true }
     requires link { IsLink marks.old.unfinished peer }
     ensures ok { OnOk result
-        (HandlesFront own_open.now rule.now peer (side end.old) (side end.new) tables.old tables.new
+        (HandlesFront own_open.now rule.now peer (side_of side.old) (side_of side.new) tables.old tables.new
         (snapshots_of marks.old) (snapshots_of marks.new)) }
-    ensures end { OnErr result (side end.new ≡ side end.old) }
+    ensures side { OnErr result (side_of side.new ≡ side_of side.old) }
     ensures tables { OnErr result (tables.new ≡ tables.old) }
     ensures marks { OnErr result (snapshots_of marks.new ≡ snapshots_of marks.old) }
     ensures over { (peers : List ℕ) → IsOver peers marks.old.unfinished → IsOver peers marks.new.unfinished }
@@ -117,18 +117,18 @@ fn handle_front(
 {
     updates_are_acted_on();
     // most are UPDATEs as a router tells them, and are not recorded: they are acted on without a draft
-    if end.is_up() && marks.unfinished().is_none() {
-        if let Some(route) = end.path_in_front(alloc, peer)? {
-            end.reserve_acting()?;
-            let (prefix, path) = route.prefix_and_path();
+    if side.is_up() && marks.unfinished().is_none() {
+        if let Some(told) = side.path_in_front(alloc, peer)? {
+            side.reserve_acting()?;
+            let (prefix, path) = told.prefix_and_path();
             let Ok(()) = tables.hear_path_at(peer_at, peer, prefix, path) else {
                 return Err(AllocError);
             };
-            end.act_on_front();
+            side.act_on_front();
             return Ok(());
         }
     }
-    handle_by_draft(alloc, rule, end, tables, marks, own_open, peer_at, peer)
+    handle_by_draft(alloc, rule, side, tables, marks, own_open, peer_at, peer)
 }
 
 // Handles any message or fault: it is read, and its draft is made, given room, and carried out. A draft is large, and a
@@ -137,7 +137,7 @@ fn handle_front(
 fn handle_by_draft(
     alloc: Global,
     rule: &Rule,
-    end: &mut Side,
+    side: &mut Side,
     tables: &mut Rib<'_>,
     marks: &mut MarkState,
     own_open: &Message,
@@ -146,26 +146,26 @@ fn handle_by_draft(
 ) -> Result<(), AllocError>
     requires stands { slice_get (peers tables.old.net tables.old.router) peer_at ≡ Some peer }
     requires own { (w : widths.Width) → IsSayable w own_open.now }
-    requires rule { (own : ℕ) × (rule.now ≡ naming (side end.old).width own peer) }
-    requires waits { is_waiting (side end.old).held ≡ true }
+    requires rule { (own : ℕ) × (rule.now ≡ naming (side_of side.old).width own peer) }
+    requires waits { is_waiting (side_of side.old).held ≡ true }
     requires link { IsLink marks.old.unfinished peer }
     ensures ok { OnOk result
-        (HandlesFront own_open.now rule.now peer (side end.old) (side end.new) tables.old tables.new
+        (HandlesFront own_open.now rule.now peer (side_of side.old) (side_of side.new) tables.old tables.new
         (snapshots_of marks.old) (snapshots_of marks.new)) }
-    ensures end { OnErr result (side end.new ≡ side end.old) }
+    ensures side { OnErr result (side_of side.new ≡ side_of side.old) }
     ensures tables { OnErr result (tables.new ≡ tables.old) }
     ensures marks { OnErr result (snapshots_of marks.new ≡ snapshots_of marks.old) }
     ensures over { (peers : List ℕ) → IsOver peers marks.old.unfinished → IsOver peers marks.new.unfinished }
     ensures router { (u : ℕ) → AreOf u marks.old → AreOf u marks.new }
 {
-    let read = end.front(alloc, rule)?;
+    let read = side.front(alloc, rule)?;
     let (event, given) = opened(read);
-    let made = end.draft_message(own_open, &given, event);
-    end.reserve(own_open, &given, &made)?;
+    let made = side.draft_message(own_open, &given, event);
+    side.reserve(own_open, &given, &made)?;
     let copy = copy_for(alloc, marks, peer, made.acts, &given)?;
     hear(tables, peer_at, peer, made.acts, &given)?;
     record(marks, peer, made.left, copy);
-    carry_front(alloc, own_open, given, &made, end, tables, peer_at, peer);
+    carry_front(alloc, own_open, given, &made, side, tables, peer_at, peer);
     Ok(())
 }
 
@@ -219,7 +219,7 @@ impl Router<'_> {
         what_comes_keeps_fresh();
         the_word_follows();
         self.peer_stands_at(peer_at, peer);
-        if !self.peers[peer_at].end.is_waiting() {
+        if !self.peers[peer_at].side.is_waiting() {
             return Ok(Stepped::Nothing);
         }
         let stamp = next_stamp_with_room(self.stamp, room)?;
@@ -229,11 +229,11 @@ impl Router<'_> {
             peer: Some(peer),
             own: Some(self.number),
         };
-        let end = &mut self.peers[peer_at].end;
+        let side = &mut self.peers[peer_at].side;
         match handle_front(
             alloc,
             &rule,
-            end,
+            side,
             &mut self.tables,
             &mut self.marks,
             &self.own_open,

@@ -18,7 +18,7 @@ impl Router<'_> {
             (λ read. IfOk read (λ told. history told.items ≡ (sides_of self.now peer).acted)) }
     {
         let peer_at = self.find(peer)?;
-        Some(self.peers[peer_at].end.acted(alloc))
+        Some(self.peers[peer_at].side.acted(alloc))
     }
 
     /// The UPDATEs that were sent to a peer, in their order, each once with its incarnation. `None` if no link leads to
@@ -28,6 +28,6 @@ impl Router<'_> {
             (λ read. IfOk read (λ told. history told.items ≡ (sides_of self.now peer).sent)) }
     {
         let peer_at = self.find(peer)?;
-        Some(self.peers[peer_at].end.sent(alloc))
+        Some(self.peers[peer_at].side.sent(alloc))
     }
 }

@@ -27,7 +27,7 @@ impl Router<'_> {
         requires stands { slice_get (peers self.now.net self.now.number) peer_at ≡ Some peer }
         ensures { result ≡ may_take self.now peer }
     {
-        !self.end_at(peer_at, peer).is_waiting()
+        !self.side_to(peer_at, peer).is_waiting()
     }
 
     /// Whether a router puts nothing towards the peer at a place as it now is: no item waits in the outbox, so that
@@ -36,7 +36,7 @@ impl Router<'_> {
         requires stands { slice_get (peers self.now.net self.now.number) peer_at ≡ Some peer }
         ensures { (cut : ℕ) → result ≡ puts_nothing self.now peer cut }
     {
-        !self.end_at(peer_at, peer).has_item()
+        !self.side_to(peer_at, peer).has_item()
     }
 
     /// Whether the link to the peer at a place is idle: no item waits in the outbox, and no whole message or fault of the
@@ -46,17 +46,17 @@ impl Router<'_> {
         requires stands { slice_get (peers self.now.net self.now.number) peer_at ≡ Some peer }
         ensures { (cut : ℕ) → result ≡ link_is_idle self.now peer cut }
     {
-        let end = self.end_at(peer_at, peer);
-        !end.has_item() && !end.is_waiting()
+        let side = self.side_to(peer_at, peer);
+        !side.has_item() && !side.is_waiting()
     }
 
     // The side towards the peer at a place.
-    fn end_at(&self, peer_at: usize, peer: Asn) -> &Side
+    fn side_to(&self, peer_at: usize, peer: Asn) -> &Side
         requires stands { slice_get (peers self.now.net self.now.number) peer_at ≡ Some peer }
         ensures side { side result.now ≡ sides_of self.now peer }
         ensures linked { linked self.now.net self.now.number peer ≡ true }
     {
         self.peer_stands_at(peer_at, peer);
-        &self.peers[peer_at].end
+        &self.peers[peer_at].side
     }
 }

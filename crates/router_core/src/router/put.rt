@@ -35,12 +35,12 @@ impl Router<'_> {
         ensures { ShowsNext result self.now peer }
     {
         self.peer_stands_at(peer_at, peer);
-        if !self.peers[peer_at].end.has_item() {
+        if !self.peers[peer_at].side.has_item() {
             return Ok(None);
         }
         let stamp = next_stamp(self.stamp)?;
         let cut = self.network.settings().cut;
-        match self.peers[peer_at].end.next_item(cut) {
+        match self.peers[peer_at].side.next_item(cut) {
             Ok(None) => Ok(None),
             Ok(Some(what)) => Ok(Some(Item { stamp, what })),
             Err(_) => Err(RouterError::Memory),
@@ -68,7 +68,7 @@ impl Router<'_> {
     {
         self.peer_stands_at(peer_at, peer);
         let cut = self.network.settings().cut;
-        self.peers[peer_at].end.item_put(cut);
+        self.peers[peer_at].side.item_put(cut);
         self.stamp += 1;
     }
 }

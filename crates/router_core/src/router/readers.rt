@@ -16,7 +16,7 @@ use bgp_codec::{Fault, Message, Rule};
 use prefix_lanes::Prefix;
 use ranked_policy::Asn;
 use rib_tables::Word;
-use session_fsm::State;
+use session_fsm::{Session, State};
 use std::alloc::{AllocError, Global};
 
 impl Router<'_> {
@@ -35,7 +35,15 @@ impl Router<'_> {
         ensures { result ≡ of_peer self.now peer (λ side. side.session.state) }
     {
         let peer_at = self.find(peer)?;
-        Some(self.peers[peer_at].end.state())
+        Some(self.peers[peer_at].side.state())
+    }
+
+    /// The session with a peer, with its timers. `None` if no link leads to the peer.
+    pub fn session(&self, peer: Asn) -> Option<Session>
+        ensures { result ≡ of_peer self.now peer (λ side. side.session) }
+    {
+        let peer_at = self.find(peer)?;
+        Some(self.peers[peer_at].side.session())
     }
 
     /// The incarnation of the link to a peer: the last number that the router dialled, 0 at first. `None` if no link
@@ -44,7 +52,7 @@ impl Router<'_> {
         ensures { result ≡ of_peer self.now peer (λ side. side.link.epoch) }
     {
         let peer_at = self.find(peer)?;
-        Some(self.peers[peer_at].end.epoch())
+        Some(self.peers[peer_at].side.epoch())
     }
 
     /// How many octets of messages wait to be put towards a peer. `None` if no link leads to the peer.
@@ -52,7 +60,7 @@ impl Router<'_> {
         ensures { result ≡ of_peer self.now peer (λ side. octets_waiting side.outbox) }
     {
         let peer_at = self.find(peer)?;
-        Some(self.peers[peer_at].end.octets_waiting())
+        Some(self.peers[peer_at].side.octets_waiting())
     }
 
     /// The message or fault of a peer that is handled next. `None` if no link leads to the peer, or if neither waits.
@@ -66,8 +74,8 @@ impl Router<'_> {
             (λ read. (has_front self.now peer ≡ true) × IfOk read (λ front. front ≡ front_of self.now peer)) }
     {
         let peer_at = self.find(peer)?;
-        let end = &self.peers[peer_at].end;
-        if !end.is_waiting() {
+        let side = &self.peers[peer_at].side;
+        if !side.is_waiting() {
             return None;
         }
         let rule = Rule {
@@ -75,7 +83,7 @@ impl Router<'_> {
             peer: Some(peer),
             own: Some(self.number),
         };
-        Some(end.front_to_show(alloc, &rule))
+        Some(side.front_to_show(alloc, &rule))
     }
 
     /// The word heard last from a peer for a prefix (Adj-RIB-In, RFC 4271 section 3.2). `None` exactly where it is the

@@ -6,7 +6,7 @@ ghost use Rattle.snap_marker.specs.Parts.{seen};
 ghost use Rattle.router_model.specs.declared.refusal.RouterError.TheVariants.{Memory};
 ghost use Rattle.router_model.specs.declared.command.Command.TheVariants.{Snapshot};
 ghost use Rattle.router_model.specs.Sides.{is_up, uses};
-ghost use Rattle.router_side.specs.SideOf.{side};
+ghost use Rattle.router_side.specs.SideOf.{side as side_of};
 ghost use Rattle.router_model.specs.Step.{awaits_marker};
 ghost use Rattle.router_model.specs.Calls.{Obey};
 ghost use Rattle.run_model.specs.declared.stamps.TheConstants.{GREATEST_STAMP};
@@ -82,7 +82,7 @@ fn channels(alloc: Global, peers: &[Peer], first: Option<Asn>) -> Result<Vec<Cha
     for peer in peers {
         made.push(Channel {
             peer: peer.number,
-            epoch: peer.end.epoch(),
+            epoch: peer.side.epoch(),
             is_open: awaits_marker(first, peer.number),
             updates: Vec::new(alloc),
         })?;
@@ -95,7 +95,7 @@ fn first_down(peers: &[Peer]) -> Option<Asn>
     ensures { result ≡ down_in peers.now }
 {
     for peer in peers {
-        if !peer.end.is_up() {
+        if !peer.side.is_up() {
             return Some(peer.number);
         }
     }
@@ -108,7 +108,7 @@ fn reserve_markers(peers: &mut Vec<Peer>) -> Result<(), AllocError>
     ensures room { OnOk result (HaveRoomToMark peers.new.items) }
 {
     for peer in peers.iter_mut() {
-        peer.end.reserve_marker()?;
+        peer.side.reserve_marker()?;
     }
     Ok(())
 }
@@ -118,8 +118,8 @@ fn mark(peer: &mut Peer, number: u32)
     requires { HaveRoomToMark (peer.old ∷ []) }
     ensures { Become (marked_if_up number) (peer.old ∷ []) (peer.new ∷ []) }
 {
-    if peer.end.is_up() {
-        peer.end.mark(number);
+    if peer.side.is_up() {
+        peer.side.mark(number);
     }
 }
 
@@ -134,10 +134,10 @@ fn mark_all(peers: &mut Vec<Peer>, number: u32)
 }
 
 // Whether a marker is heeded: in Established alone, in the incarnation that the end joined.
-fn heeds(end: &Side, epoch: u32) -> bool
-    ensures { result ≡ (is_up (side end.now) && uses (side end.now).link epoch) }
+fn heeds(side: &Side, epoch: u32) -> bool
+    ensures { result ≡ (is_up (side_of side.now) && uses (side_of side.now).link epoch) }
 {
-    end.is_up() && end.uses(epoch)
+    side.is_up() && side.uses(epoch)
 }
 
 // The part of a snapshot that a router records now.
@@ -259,7 +259,7 @@ impl Router<'_> {
         ensures same { IsSame self.old self.new }
     {
         room?;
-        if !heeds(&self.peers[peer_at].end, epoch) {
+        if !heeds(&self.peers[peer_at].side, epoch) {
             self.stamp = stamp;
             return Ok(Stepped::Did);
         }

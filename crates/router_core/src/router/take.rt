@@ -52,7 +52,7 @@ impl Router<'_> {
         ensures same { IsSame self.old self.new }
     {
         self.peer_stands_at(peer_at, peer);
-        if self.peers[peer_at].end.is_waiting() {
+        if self.peers[peer_at].side.is_waiting() {
             return Err(RouterError::Held { peer });
         }
         let stamp = self.stamp.max(item.stamp).saturating_add(1);
@@ -65,7 +65,7 @@ impl Router<'_> {
             What::Piece(epoch, octets) => {
                 room?;
                 self.peers[peer_at]
-                    .end
+                    .side
                     .take_piece(*epoch, octets.as_slice());
                 self.stamp = stamp;
                 Ok(Stepped::Did)
@@ -93,7 +93,7 @@ impl Router<'_> {
         ensures same { IsSame self.old self.new }
     {
         what_comes_keeps_fresh();
-        let made = self.peers[peer_at].end.draft_sign(&self.own_open, sign);
+        let made = self.peers[peer_at].side.draft_sign(&self.own_open, sign);
         self.carry_out(peer, peer_at, &made, stamp, room)
     }
 }

@@ -26,7 +26,7 @@ pub(super) fn overflows(event: SessionEvent, peers: &[Peer], own_open: &Message)
     ensures { result ≡ overflow_in (draft_by event own_open.now) peers.now }
 {
     for peer in peers {
-        if drafted(event, &peer.end, own_open).overflows {
+        if drafted(event, &peer.side, own_open).overflows {
             return true;
         }
     }
@@ -47,8 +47,8 @@ fn prepare(
 {
     let mut drafts = Vec::new(alloc);
     for peer in peers.iter_mut() {
-        let made = drafted(event, &peer.end, own_open);
-        peer.end.reserve(own_open, &Brought::Nothing, &made)?;
+        let made = drafted(event, &peer.side, own_open);
+        peer.side.reserve(own_open, &Brought::Nothing, &made)?;
         drafts.push(made)?;
     }
     Ok(drafts)
@@ -59,7 +59,7 @@ fn runs_out(peers: &[Peer]) -> bool
     ensures { result ≡ runs_out_in peers.now }
 {
     for peer in peers {
-        if peer.end.runs_out() {
+        if peer.side.runs_out() {
             return true;
         }
     }
@@ -71,7 +71,7 @@ fn count_down_all(peers: &mut Vec<Peer>)
     ensures { Become counted_down peers.old.items peers.new.items }
 {
     for peer in peers.iter_mut() {
-        peer.end.count_down();
+        peer.side.count_down();
     }
 }
 
@@ -82,16 +82,16 @@ impl Router<'_> {
         requires ready { (d : peer.Peer)
             → IsReady self.old.own_open (draft_by event self.old.own_open) (get_or self.old.peers peer_at d) made.now }
         requires fits { (d : peer.Peer)
-            → (draft_by event self.old.own_open (side (get_or self.old.peers peer_at d).end)).overflows ≡ false }
+            → (draft_by event self.old.own_open (side (get_or self.old.peers peer_at d).side)).overflows ≡ false }
         ensures { MovesSide self.old peer_at (draft_by event self.old.own_open) self.new }
     {
         sessions_keep_fresh();
         let alloc = *self.peers.allocator();
         let peer = self.peers[peer_at].number;
-        let end = &mut self.peers[peer_at].end;
+        let side = &mut self.peers[peer_at].side;
         carry(
             alloc,
-            end,
+            side,
             &mut self.tables,
             peer_at,
             peer,

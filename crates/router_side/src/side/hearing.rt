@@ -4,7 +4,7 @@ ghost use Rattle.std.specs.Prelude.{◌≡◌, ◌≤◌, true, false, length, I
 ghost use Rattle.bgp_values.specs.declared.messages.TheConstants.{MESSAGE_LIMIT};
 ghost use Rattle.bgp_framing.specs.Held.{is_waiting};
 ghost use Rattle.router_model.specs.Sides.{uses, fed, front, at_hand};
-ghost use Rattle.router_side.specs.Acting.{IsRouteInFront};
+ghost use Rattle.router_side.specs.Acting.{IsToldInFront};
 ghost use Rattle.router_side.specs.Sayings.{told_of, IsReadAs, IsSayableWhere};
 ghost use Rattle.router_side.specs.SideOf.{side};
 
@@ -67,7 +67,7 @@ impl Side {
     /// The path that the message in front tells, where it is such an UPDATE as a router appends for a path, and
     /// one that is announced begins with the peer. It is refused only for want of memory.
     pub fn path_in_front(&self, alloc: Global, peer: Asn) -> Result<Option<ToldPath>, AllocError>
-        ensures { IfOk result (λ found. IfSome found (IsRouteInFront (side self.now).width peer (side self.now).held)) }
+        ensures { IfOk result (λ found. IfSome found (IsToldInFront (side self.now).width peer (side self.now).held)) }
     {
         header_is_its_front();
         match self.framer.next() {

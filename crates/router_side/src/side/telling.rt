@@ -14,12 +14,12 @@ use std::alloc::AllocError;
 impl Side {
     /// Makes room for a path to be told. It is refused only for want of memory, and the side stays as it was, with the
     /// room that it had, or more.
-    pub fn reserve_path(&mut self, route: &ToldPath) -> Result<(), AllocError>
+    pub fn reserve_path(&mut self, told: &ToldPath) -> Result<(), AllocError>
         ensures side { side self.new ≡ side self.old }
-        ensures room { OnOk result (HasRoomToTell (UpdateMsg route.now) self.new) }
+        ensures room { OnOk result (HasRoomToTell (UpdateMsg told.now) self.new) }
         ensures kept { OnErr result (KeepsRoom self.old self.new) }
     {
-        let len = route.len(self.width);
+        let len = told.len(self.width);
         self.outbox.reserve(len, 1)?;
         self.sent.reserve(len)?;
         Ok(())
@@ -29,15 +29,15 @@ impl Side {
     /// KeepaliveTimer again (RFC 4271 section 8.2.2). Its octets are put without a message in between. It takes no
     /// memory.
     #[tactic(auto, using(crate::proofs::Said::told_is))]
-    pub fn tell_path(&mut self, route: &ToldPath)
+    pub fn tell_path(&mut self, told: &ToldPath)
         requires up { is_up (side self.old) ≡ true }
-        requires sayable { IsSayable self.old.width (UpdateMsg route.now) }
-        requires room { HasRoomToTell (UpdateMsg route.now) self.old }
-        ensures { side self.new ≡ told_by (side self.old) (UpdateMsg route.now) }
+        requires sayable { IsSayable self.old.width (UpdateMsg told.now) }
+        requires room { HasRoomToTell (UpdateMsg told.now) self.old }
+        ensures { side self.new ≡ told_by (side self.old) (UpdateMsg told.now) }
     {
         let epoch = self.link.epoch();
         self.sent
-            .keep_path(self.width, epoch, route, &mut self.outbox);
+            .keep_path(self.width, epoch, told, &mut self.outbox);
         self.session.update_sent();
     }
 

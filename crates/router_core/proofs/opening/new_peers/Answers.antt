@@ -13,12 +13,12 @@ loop-link-preserved c =
     let made = c.loop-link.made.items in
     let links = c.links_of-link-items.result.now in
     let link : Link = get_or links c.loop-link.link-index (record { one = 0; other = 0 }) in
-    let peer : Peer = record { number = link.other; end = c.in_ok-end.end } in
+    let peer : Peer = record { number = link.other; side = c.in_ok-side.side } in
     let grown : c.push.new.self.items ≡ made ++ peer ∷ [] = search rules in
-    let fresh : side c.in_ok-end.end ≡ side_opening c.args.config net.settings.width = search rules in
+    let fresh : side c.in_ok-side.side ≡ side_opening c.args.config net.settings.width = search rules in
     record {
       numbers = subst (λ ps. map (λ p. p.number) ps ++ map (λ k. k.other) (drop (c.loop-link.link-index + 1) links) ≡ peers net c.args.number) (sym grown)
           (one_more made peer links c.loop-link.link-index (record { one = 0; other = 0 }) link c.loop-link-test.true refl refl ∙ c.loop-link.invariant.numbers);
-      sides = subst (AllByRecursion (λ p. side p.end ≡ side_opening c.args.config net.settings.width)) (sym grown)
-          (all_more (λ p. side p.end ≡ side_opening c.args.config net.settings.width) made peer c.loop-link.invariant.sides fresh);
+      sides = subst (AllByRecursion (λ p. side p.side ≡ side_opening c.args.config net.settings.width)) (sym grown)
+          (all_more (λ p. side p.side ≡ side_opening c.args.config net.settings.width) made peer c.loop-link.invariant.sides fresh);
     }

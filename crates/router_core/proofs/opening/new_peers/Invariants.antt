@@ -9,5 +9,5 @@ abbrev pub invariant-loop-link : goal.invariant-loop-link
 invariant-loop-link l =
     record {
       numbers : map (λ p. p.number) l.made.items ++ map (λ k. k.other) (drop l.link-index l.link-items) ≡ peers l.fn.network l.fn.number;
-      sides : AllByRecursion (λ p. side p.end ≡ side_opening l.fn.config l.fn.network.settings.width) l.made.items;
+      sides : AllByRecursion (λ p. side p.side ≡ side_opening l.fn.config l.fn.network.settings.width) l.made.items;
     }

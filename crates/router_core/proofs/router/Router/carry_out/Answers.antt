@@ -20,7 +20,7 @@ use Rattle.router_core.proofs.Following.{leaves}
 use Rattle.router_core.proofs.router.Router.carry_out.Goals as goal
 
 pub reserve-requires-clause-own : goal.reserve-requires-clause-own
-reserve-requires-clause-own c = c.self.invariant.sayable c.index_mut.result.now.end.width
+reserve-requires-clause-own c = c.self.invariant.sayable c.index_mut.result.now.side.width
 
 -- the caller has no room
 pub returns-in_err-room-clause-carries : goal.returns-in_err-room-clause-carries
@@ -38,7 +38,7 @@ invariant_of-self c =
     let r = view_of c.self.inside in
     let v = c.args.peer in
     let p = c.index_mut.result.now in
-    let q : Peer = record { number = p.number; end = c.reserve.new.self } in
+    let q : Peer = record { number = p.number; side = c.reserve.new.self } in
     let place = subst (λ (x : RouterView). IsFound x.peers v c.args.peer_at) (sym c.self.view_is) c.requires.place in
     let ch : Changes r v c.args.peer_at p q = record { place = place.2; here = c.index_mut.ensures.value; number = refl } in
     let same = c.reserve.ensures.side in
@@ -50,7 +50,7 @@ returns-then-is_err-clause-carries c =
     let r = view_of c.self.inside in
     let v = c.args.peer in
     let p = c.index_mut.result.now in
-    let q : Peer = record { number = p.number; end = c.reserve.new.self } in
+    let q : Peer = record { number = p.number; side = c.reserve.new.self } in
     let place = subst (λ (x : RouterView). IsFound x.peers v c.args.peer_at) (sym c.self.view_is) c.requires.place in
     let ch : Changes r v c.args.peer_at p q = record { place = place.2; here = c.index_mut.ensures.value; number = refl } in
     let early : nat_lt GREATEST_STAMP c.args.stamp ≡ false = grind (arith, nat_tests, c.if-stamp-gt-GREATEST_STAMP.false) in
@@ -70,13 +70,13 @@ invariant_of-self-2 c =
     let r = view_of c.self.inside in
     let v = c.args.peer in
     let p = c.index_mut.result.now in
-    let q : Peer = record { number = p.number; end = c.carry.new.end } in
+    let q : Peer = record { number = p.number; side = c.carry.new.side } in
     let place = subst (λ (x : RouterView). IsFound x.peers v c.args.peer_at) (sym c.self.view_is) c.requires.place in
     let ch : Changes r v c.args.peer_at p q = record { place = place.2; here = c.index_mut.ensures.value; number = refl } in
     let a = draft r.own_open NoMessage c.args.made.now in
     let fresh = subst (λ (x : RouterView). KeepsFresh (sides_of x v) NoMessage (draft x.own_open NoMessage c.args.made.now)) (sym c.self.view_is) (c.requires.fresh c.if-overflows.false) in
     let is = c.carry.ensures.side ∙ ap (λ (s : Side). carried NoMessage s a) c.reserve.ensures.side in
-    let on = subst (λ (s : Side). Followed r.tables c.carry.new.tables v (standing s) (standing (side c.carry.new.end))) c.reserve.ensures.side c.carry.ensures.tables in
+    let on = subst (λ (s : Side). Followed r.tables c.carry.new.tables v (standing s) (standing (side c.carry.new.side))) c.reserve.ensures.side c.carry.ensures.tables in
     let few : c.args.stamp ≤ GREATEST_STAMP = omega (arith, c.if-stamp-gt-GREATEST_STAMP.false) in
     stays r v c.args.peer_at p q ch c.carry.new.tables c.close.new.marks c.args.stamp c.self.invariant few
     (tracks_moved r v c.args.peer_at p q ch c.self.invariant a c.carry.new.tables fresh is on) (record { over = c.close.ensures.over; router = c.close.ensures.router })
@@ -86,12 +86,12 @@ returns-clause-carries c =
     let r = view_of c.self.inside in
     let v = c.args.peer in
     let p = c.index_mut.result.now in
-    let q : Peer = record { number = p.number; end = c.carry.new.end } in
+    let q : Peer = record { number = p.number; side = c.carry.new.side } in
     let place = subst (λ (x : RouterView). IsFound x.peers v c.args.peer_at) (sym c.self.view_is) c.requires.place in
     let ch : Changes r v c.args.peer_at p q = record { place = place.2; here = c.index_mut.ensures.value; number = refl } in
     let a = draft r.own_open NoMessage c.args.made.now in
     let is = c.carry.ensures.side ∙ ap (λ (s : Side). carried NoMessage s a) c.reserve.ensures.side in
-    let on = leaves r.tables c.carry.new.tables v (standing (side c.reserve.new.self)) (standing (side c.carry.new.end)) c.carry.ensures.tables in
+    let on = leaves r.tables c.carry.new.tables v (standing (side c.reserve.new.self)) (standing (side c.carry.new.side)) c.carry.ensures.tables in
     let early : nat_lt GREATEST_STAMP c.args.stamp ≡ false = grind (arith, nat_tests, c.if-stamp-gt-GREATEST_STAMP.false) in
     subst (λ (x : RouterView). Carries (Ok Did) x v NoMessage (draft x.own_open NoMessage c.args.made.now) c.args.made.now.overflows c.args.stamp (with_peer r c.args.peer_at q c.carry.new.tables c.close.new.marks c.args.stamp)) c.self.view_is
     (ends_did (nat_lt GREATEST_STAMP c.args.stamp) c.args.made.now.overflows (plain_of r) (record { router = moved (plain_of r).router v NoMessage a; stamp = c.args.stamp })

@@ -76,13 +76,13 @@ invariant_of-self c =
     let v = c.args.peer in
     let found = subst (λ (x : RouterView). IsFound x.peers c.args.peer c.args.peer_at) (sym c.self.view_is) c.peer_stands_at.ensures.found in
     let p = c.index_mut.result.now in
-    let q : Peer = record { number = p.number; end = c.handle_front.new.end } in
+    let q : Peer = record { number = p.number; side = c.handle_front.new.side } in
     let ch : Changes r v c.args.peer_at p q = record { place = found.2; here = c.index_mut.ensures.value; number = refl } in
     let t = c.handle_front.new.tables in
     let m = c.handle_front.new.marks in
     let few : r.stamp + 1 ≤ GREATEST_STAMP = grind (arith, nat_tests, c.in_ok-stamp.ensures.next.1) in
-    let h = subst (λ (s : Settings). HandlesFront r.own_open (naming s.width r.number v) v (side p.end) (side q.end) r.tables t (snapshots_of r.marks) (snapshots_of m)) c.settings.ensures.value c.in-Ok.ensures.ok in
-    let keeps = c.what_comes_keeps_fresh.ensures.messages r.own_open (front (rule_of r.net r.number v) (side p.end).held) (side p.end) (is_fresh r v c.args.peer_at p q ch c.self.invariant) in
+    let h = subst (λ (s : Settings). HandlesFront r.own_open (naming s.width r.number v) v (side p.side) (side q.side) r.tables t (snapshots_of r.marks) (snapshots_of m)) c.settings.ensures.value c.in-Ok.ensures.ok in
+    let keeps = c.what_comes_keeps_fresh.ensures.messages r.own_open (front (rule_of r.net r.number v) (side p.side).held) (side p.side) (is_fresh r v c.args.peer_at p q ch c.self.invariant) in
     let tracks = tracks_handled c.the_word_follows.ensures r v c.args.peer_at p q ch c.self.invariant t (snapshots_of r.marks) (snapshots_of m) keeps h in
     rw c.in_ok-stamp.ensures.next.0
     (stays r v c.args.peer_at p q ch t m (r.stamp + 1) c.self.invariant few tracks (record { over = c.handle_front.ensures.over; router = c.handle_front.ensures.router }))
@@ -93,14 +93,14 @@ returns-in-Ok-clause-answers c =
     let v = c.args.peer in
     let found = subst (λ (x : RouterView). IsFound x.peers c.args.peer c.args.peer_at) (sym c.self.view_is) c.peer_stands_at.ensures.found in
     let p = c.index_mut.result.now in
-    let q : Peer = record { number = p.number; end = c.handle_front.new.end } in
+    let q : Peer = record { number = p.number; side = c.handle_front.new.side } in
     let ch : Changes r v c.args.peer_at p q = record { place = found.2; here = c.index_mut.ensures.value; number = refl } in
     let t = c.handle_front.new.tables in
     let m = c.handle_front.new.marks in
     let same : p ≡ c.index.result.now = c.index_mut.ensures.value ∙ here_same r.peers v c.args.peer_at p c.index.result.now found.2 ∙ sym c.index.ensures in
-    let waits = ap (λ (w : Peer). is_waiting (side w.end).held) same ∙ sym c.is_waiting.ensures ∙ c.if-not-is_waiting.false in
+    let waits = ap (λ (w : Peer). is_waiting (side w.side).held) same ∙ sym c.is_waiting.ensures ∙ c.if-not-is_waiting.false in
     let late : nat_lt GREATEST_STAMP (r.stamp + 1) ≡ false = c.in_ok-stamp.ensures.next.1 in
-    let h = subst (λ (s : Settings). HandlesFront r.own_open (naming s.width r.number v) v (side p.end) (side q.end) r.tables t (snapshots_of r.marks) (snapshots_of m)) c.settings.ensures.value c.in-Ok.ensures.ok in
+    let h = subst (λ (s : Settings). HandlesFront r.own_open (naming s.width r.number v) v (side p.side) (side q.side) r.tables t (snapshots_of r.marks) (snapshots_of m)) c.settings.ensures.value c.in-Ok.ensures.ok in
     let leaves = leaves_handled c.the_word_follows.ensures r v c.args.peer_at p q ch c.self.invariant t (snapshots_of r.marks) (snapshots_of m) h in
     let sees = h.sees ∙ seen_is h.draft.acts h.hand v (closed (close_at v h.draft.left) (snapshots_of r.marks)) in
     rw c.in_ok-stamp.ensures.next.0
@@ -114,11 +114,11 @@ invariant_of-self-in-Err c =
     let v = c.args.peer in
     let found = subst (λ (x : RouterView). IsFound x.peers c.args.peer c.args.peer_at) (sym c.self.view_is) c.peer_stands_at.ensures.found in
     let p = c.index_mut.result.now in
-    let q : Peer = record { number = p.number; end = c.handle_front.new.end } in
+    let q : Peer = record { number = p.number; side = c.handle_front.new.side } in
     let ch : Changes r v c.args.peer_at p q = record { place = found.2; here = c.index_mut.ensures.value; number = refl } in
     let t = c.handle_front.new.tables in
     let m = c.handle_front.new.marks in
-    let is = c.in-Err.ensures.end in
+    let is = c.in-Err.ensures.side in
     let alike = tracks_alike r v c.args.peer_at p q ch c.self.invariant (ap (λ (s : Side). s.session) is) (ap (λ (s : Side). s.link) is) (ap (λ (s : Side). s.acted) is) (ap (λ (s : Side). s.sent) is) (ap (λ (s : Side). s.width) is) in
     stays r v c.args.peer_at p q ch t m r.stamp c.self.invariant c.self.invariant.stamp (subst (Tracks r v q) (sym c.in-Err.ensures.tables) alike)
     (record { over = c.handle_front.ensures.over; router = c.handle_front.ensures.router })
@@ -129,13 +129,13 @@ returns-in-Err-clause-answers c =
     let v = c.args.peer in
     let found = subst (λ (x : RouterView). IsFound x.peers c.args.peer c.args.peer_at) (sym c.self.view_is) c.peer_stands_at.ensures.found in
     let p = c.index_mut.result.now in
-    let q : Peer = record { number = p.number; end = c.handle_front.new.end } in
+    let q : Peer = record { number = p.number; side = c.handle_front.new.side } in
     let ch : Changes r v c.args.peer_at p q = record { place = found.2; here = c.index_mut.ensures.value; number = refl } in
     let t = c.handle_front.new.tables in
     let m = c.handle_front.new.marks in
     let same : p ≡ c.index.result.now = c.index_mut.ensures.value ∙ here_same r.peers v c.args.peer_at p c.index.result.now found.2 ∙ sym c.index.ensures in
-    let waits = ap (λ (w : Peer). is_waiting (side w.end).held) same ∙ sym c.is_waiting.ensures ∙ c.if-not-is_waiting.false in
+    let waits = ap (λ (w : Peer). is_waiting (side w.side).held) same ∙ sym c.is_waiting.ensures ∙ c.if-not-is_waiting.false in
     let late : nat_lt GREATEST_STAMP (r.stamp + 1) ≡ false = c.in_ok-stamp.ensures.next.1 in
-    let as_it_was = subst (λ (w : RibView). plain_of (with_peer r c.args.peer_at q w m r.stamp) ≡ plain_of r) (sym c.in-Err.ensures.tables) (kept r v c.args.peer_at p q ch m c.in-Err.ensures.end c.in-Err.ensures.marks) in
+    let as_it_was = subst (λ (w : RibView). plain_of (with_peer r c.args.peer_at q w m r.stamp) ≡ plain_of r) (sym c.in-Err.ensures.tables) (kept r v c.args.peer_at p q ch m c.in-Err.ensures.side c.in-Err.ensures.marks) in
     subst (λ (x : RouterView). Answers (Err error.Memory) x (Handle v) (with_peer r c.args.peer_at q t m r.stamp)) c.self.view_is (λ g e ranks.
     hands_refused g r v c.args.peer_at p (of_sound g r c.self.invariant e) found.2 c.index_mut.ensures.value found.1 (plain_of (with_peer r c.args.peer_at q t m r.stamp)) as_it_was waits late)

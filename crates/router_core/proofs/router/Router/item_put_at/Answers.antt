@@ -20,7 +20,7 @@ invariant_of-self c =
     let has = has_next r c.args.peer c.self.invariant (subst (λ (x : RouterView). HasNext x c.args.peer) (sym c.self.view_is) c.requires.next) in
     let found = subst (λ (x : RouterView). IsFound x.peers c.args.peer c.args.peer_at) (sym c.self.view_is) c.peer_stands_at.ensures.found in
     let p = c.index_mut.result.now in
-    let q : Peer = record { number = p.number; end = c.item_put.new.self } in
+    let q : Peer = record { number = p.number; side = c.item_put.new.self } in
     let ch : Changes r c.args.peer c.args.peer_at p q = record { place = found.2; here = c.index_mut.ensures.value; number = refl } in
     let few : r.stamp + 1 ≤ GREATEST_STAMP = grind (arith, nat_tests, has.2) in
     let tracks = tracks_alike r c.args.peer c.args.peer_at p q ch c.self.invariant (ap (λ (z : Side). z.session) c.item_put.ensures) (ap (λ (z : Side). z.link) c.item_put.ensures)
@@ -33,9 +33,9 @@ returns-clause-answers c =
     let has = has_next r c.args.peer c.self.invariant (subst (λ (x : RouterView). HasNext x c.args.peer) (sym c.self.view_is) c.requires.next) in
     let found = subst (λ (x : RouterView). IsFound x.peers c.args.peer c.args.peer_at) (sym c.self.view_is) c.peer_stands_at.ensures.found in
     let p = c.index_mut.result.now in
-    let q : Peer = record { number = p.number; end = c.item_put.new.self } in
+    let q : Peer = record { number = p.number; side = c.item_put.new.self } in
     let ch : Changes r c.args.peer c.args.peer_at p q = record { place = found.2; here = c.index_mut.ensures.value; number = refl } in
-    let is = c.item_put.ensures ∙ ap (λ (s : Settings). put_next (side p.end) s.cut) c.settings-cut.ensures.value in
+    let is = c.item_put.ensures ∙ ap (λ (s : Settings). put_next (side p.side) s.cut) c.settings-cut.ensures.value in
     subst (λ (x : RouterView). Answers (Ok stepped.Did) x (Put c.args.peer) (with_peer r c.args.peer_at q r.tables r.marks (r.stamp + 1))) c.self.view_is (λ g e ranks.
     puts_item g r c.args.peer c.args.peer_at p (of_sound g r c.self.invariant e) found.2 c.index_mut.ensures.value found.1 q ch is
     (ap is_some (item_here r c.args.peer c.args.peer_at p found.2 c.index_mut.ensures.value) ∙ has.1) has.2)

@@ -5,5 +5,5 @@ use Rattle.router_core.proofs.router.Router.may_take_at.Goals as goal
 
 pub returns : goal.returns
 returns c =
-    let waits = c.is_waiting.ensures ∙ ap (λ (s : Side). is_waiting s.held) c.end_at.ensures.side in
-    rw (c.end_at.ensures.linked, waits) refl
+    let waits = c.is_waiting.ensures ∙ ap (λ (s : Side). is_waiting s.held) c.side_to.ensures.side in
+    rw (c.side_to.ensures.linked, waits) refl

@@ -52,8 +52,8 @@ move_side-requires-clause-fits c = λ d.
     let less : l.peer_at < length c.args.made.now = omega (arith, c.loop-peer_at-test.true, l.auto.peer_at-end) in
     let here : l.peer_at < length x.peers = omega (arith, less, long) in
     let first = fits_here D x.peers l.peer_at d c.requires.fits here in
-    let second = ap (λ (p : Peer). (D (side p.end)).overflows) (passed_here f l.peer_at x.peers l.self.peers d l.invariant.peers) ∙ first in
-    subst (λ (o : Message). (draft_by w o (side (get_or l.self.peers l.peer_at d).end)).overflows ≡ false) (sym l.invariant.rest.own_open) second
+    let second = ap (λ (p : Peer). (D (side p.side)).overflows) (passed_here f l.peer_at x.peers l.self.peers d l.invariant.peers) ∙ first in
+    subst (λ (o : Message). (draft_by w o (side (get_or l.self.peers l.peer_at d).side)).overflows ≡ false) (sym l.invariant.rest.own_open) second
 
 pub loop-peer_at-preserved : goal.loop-peer_at-preserved
 loop-peer_at-preserved c =
@@ -74,7 +74,7 @@ loop-peer_at-preserved c =
       peers = subst (Passed f (l.peer_at + 1) x.peers) (sym m.peers) (passed_next f l.peer_at x.peers l.self.peers d m.peer l.invariant.peers now (m.number d) (m.moved d));
       marks =
           closed_next D l.peer_at x.peers d (snapshots_of x.marks) (snapshots_of l.self.marks) (snapshots_of y.marks) here l.invariant.marks
-          (subst (λ (p : Peer). snapshots_of y.marks ≡ closed (close_at p.number (D (side p.end)).left) (snapshots_of l.self.marks)) (passed_here f l.peer_at x.peers l.self.peers d l.invariant.peers) (m.marks d));
+          (subst (λ (p : Peer). snapshots_of y.marks ≡ closed (close_at p.number (D (side p.side)).left) (snapshots_of l.self.marks)) (passed_here f l.peer_at x.peers l.self.peers d l.invariant.peers) (m.marks d));
       rest = rest_then x l.self y l.invariant.rest m.rest;
     }
 

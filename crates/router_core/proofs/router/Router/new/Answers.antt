@@ -10,8 +10,8 @@ use Rattle.router_core.proofs.router.Router.new.Goals as goal
 pub invariant_of-result : goal.invariant_of-result
 invariant_of-result c =
     let net = c.settings-settings.ensures.network in
-    let sides : AllByRecursion (λ p. side p.end ≡ side_opening (config_of c.args.network.now) c.args.network.now.settings.width) c.in-Ok.peers.items =
-    subst (λ (s : Settings). AllByRecursion (λ p. side p.end ≡ side_opening (record { hold = s.hold; restart = s.restart }) c.args.network.now.settings.width) c.in-Ok.peers.items) c.settings-settings.ensures.value
+    let sides : AllByRecursion (λ p. side p.side ≡ side_opening (config_of c.args.network.now) c.args.network.now.settings.width) c.in-Ok.peers.items =
+    subst (λ (s : Settings). AllByRecursion (λ p. side p.side ≡ side_opening (record { hold = s.hold; restart = s.restart }) c.args.network.now.settings.width) c.in-Ok.peers.items) c.settings-settings.ensures.value
     c.in-Ok.ensures.sides in
     record {
       network = net;
@@ -27,8 +27,8 @@ invariant_of-result c =
 
 pub returns : goal.returns
 returns c =
-    let sides : AllByRecursion (λ p. side p.end ≡ side_opening (config_of c.args.network.now) c.args.network.now.settings.width) c.in-Ok.peers.items =
-    subst (λ (s : Settings). AllByRecursion (λ p. side p.end ≡ side_opening (record { hold = s.hold; restart = s.restart }) c.args.network.now.settings.width) c.in-Ok.peers.items) c.settings-settings.ensures.value
+    let sides : AllByRecursion (λ p. side p.side ≡ side_opening (config_of c.args.network.now) c.args.network.now.settings.width) c.in-Ok.peers.items =
+    subst (λ (s : Settings). AllByRecursion (λ p. side p.side ≡ side_opening (record { hold = s.hold; restart = s.restart }) c.args.network.now.settings.width) c.in-Ok.peers.items) c.settings-settings.ensures.value
     c.in-Ok.ensures.sides in (
       refl,
       refl,

@@ -32,7 +32,7 @@ pub returns-in-Ok-Some : goal.returns-in-Ok-Some
 returns-in-Ok-Some c =
     let r = view_of c.self.inside in
     let found = subst (λ (x : RouterView). IsFound x.peers c.args.peer c.args.peer_at) (sym c.self.view_is) c.peer_stands_at.ensures.found in
-    let item = sym c.in-Ok-Some.field-0-is ∙ c.in-Ok-Some.ensures ∙ ap (λ (s : Settings). next_item s.cut (side c.index-2.result.now.end).outbox) c.settings-cut.ensures.value in
+    let item = sym c.in-Ok-Some.field-0-is ∙ c.in-Ok-Some.ensures ∙ ap (λ (s : Settings). next_item s.cut (side c.index-2.result.now.side).outbox) c.settings-cut.ensures.value in
     rw c.in_ok-stamp.ensures.0
     (subst (λ (x : RouterView). ShowsNext (Ok (Some (record { stamp = r.stamp + 1; what = c.in-Ok-Some.what }))) x c.args.peer) c.self.view_is (λ g e.
     shows_item g r c.args.peer (of_sound g r c.self.invariant e) c.args.peer_at c.index-2.result.now found.2 c.index-2.ensures found.1 c.in-Ok-Some.what item c.in_ok-stamp.ensures.1))

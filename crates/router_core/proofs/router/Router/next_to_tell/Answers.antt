@@ -27,7 +27,7 @@ loop-peer_at-preserved c =
     let r = view_of c.self.inside in
     let lt : c.loop-peer_at.peer_at < length r.peers = search rules in
     let p = c.index-peer.result.now in
-    let full : nat_lt (octets_waiting (side p.end).outbox) OUTBOX_LIMIT ≡ false = grind (arith, nat_tests, c.octets_waiting.ensures, c.if-octets_waiting-lt-OUTBOX_LIMIT.false) in
+    let full : nat_lt (octets_waiting (side p.side).outbox) OUTBOX_LIMIT ≡ false = grind (arith, nat_tests, c.octets_waiting.ensures, c.if-octets_waiting-lt-OUTBOX_LIMIT.false) in
     rw c.or-blocked.ensures (past_full r c.self.invariant c.loop-peer_at.peer_at p lt c.index-peer.ensures c.in-Some.found.1 c.in-Some.ensures.least full c.loop-peer_at.blocked c.loop-peer_at.invariant)
 
 pub returns-then-octets_waiting-lt-OUTBOX_LIMIT : goal.returns-then-octets_waiting-lt-OUTBOX_LIMIT
@@ -35,7 +35,7 @@ returns-then-octets_waiting-lt-OUTBOX_LIMIT c =
     let r = view_of c.self.inside in
     let lt : c.loop-peer_at.peer_at < length r.peers = search rules in
     let p = c.index-peer.result.now in
-    let free : nat_lt (octets_waiting (side p.end).outbox) OUTBOX_LIMIT ≡ true = grind (arith, nat_tests, c.octets_waiting.ensures, c.if-octets_waiting-lt-OUTBOX_LIMIT.true) in
+    let free : nat_lt (octets_waiting (side p.side).outbox) OUTBOX_LIMIT ≡ true = grind (arith, nat_tests, c.octets_waiting.ensures, c.if-octets_waiting-lt-OUTBOX_LIMIT.true) in
     let q = c.in-Some.found.1 in
     subst (λ (x : RouterView). IsNext x (next.Peer c.loop-peer_at.peer_at c.in-Some.found.0 q)) c.self.view_is
     (is_next r c.self.invariant c.loop-peer_at.peer_at p lt c.index-peer.ensures q c.in-Some.ensures.least free c.loop-peer_at.blocked c.loop-peer_at.invariant c.in-Some.found.0 (rw (sym c.self.invariant.tabled.net) c.in-Some.ensures.named))

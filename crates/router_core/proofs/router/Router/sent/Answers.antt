@@ -14,7 +14,7 @@ returns c =
     let r = view_of c.self.inside in
     let v = c.args.peer in
     let place = subst (λ (x : RouterView). IsFound x.peers v c.in_ok-peer_at.peer_at) (sym c.self.view_is) c.in_ok-peer_at.ensures.place in
-    let stands : sides_of r v ≡ side c.index.result.now.end =
-    side_here (side_opening (config_of r.net) r.net.settings.width) r.peers v c.in_ok-peer_at.peer_at c.index.result.now place.2 ∙ ap (λ (w : Peer). side w.end) (sym c.index.ensures) in
+    let stands : sides_of r v ≡ side c.index.result.now.side =
+    side_here (side_opening (config_of r.net) r.net.settings.width) r.peers v c.in_ok-peer_at.peer_at c.index.result.now place.2 ∙ ap (λ (w : Peer). side w.side) (sym c.index.ensures) in
     subst (λ (us : ℕ → List Update). IfOk c.sent.result (λ told. history told.items ≡ us)) (ap (λ (s : Side). s.sent) (sym stands) ∙ ap (λ (x : RouterView). (sides_of x v).sent) c.self.view_is)
     c.sent.ensures

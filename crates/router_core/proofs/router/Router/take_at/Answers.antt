@@ -40,10 +40,10 @@ invariant_of-self c =
     let r = view_of c.self.inside in
     let found = subst (λ (x : RouterView). IsFound x.peers c.args.peer c.args.peer_at) (sym c.self.view_is) c.peer_stands_at.ensures.found in
     let p = c.index_mut.result.now in
-    let q : Peer = record { number = p.number; end = c.take_piece.new.self } in
+    let q : Peer = record { number = p.number; side = c.take_piece.new.self } in
     let ch : Changes r c.args.peer c.args.peer_at p q = record { place = found.2; here = c.index_mut.ensures.value; number = refl } in
     let few : c.saturating_add-stamp.result ≤ GREATEST_STAMP = omega (arith, c.if-stamp-gt-GREATEST_STAMP.false) in
-    let on = c.take_piece.ensures ∙ fed_is (side p.end) c.in-Piece.epoch c.as_slice.result.now in
+    let on = c.take_piece.ensures ∙ fed_is (side p.side) c.in-Piece.epoch c.as_slice.result.now in
     let tracks = tracks_alike r c.args.peer c.args.peer_at p q ch c.self.invariant (ap (λ (z : Side). z.session) on) (ap (λ (z : Side). z.link) on) (ap (λ (z : Side). z.acted) on) (ap (λ (z : Side). z.sent) on) (ap (λ (z : Side). z.width) on) in
     stays r c.args.peer c.args.peer_at p q ch r.tables r.marks c.saturating_add-stamp.result c.self.invariant few tracks (records_same r)
 
@@ -100,12 +100,12 @@ returns-in_ok-room-in-Piece-clause-answers c =
     let found = subst (λ (x : RouterView). IsFound x.peers c.args.peer c.args.peer_at) (sym c.self.view_is) c.peer_stands_at.ensures.found in
     let next : c.saturating_add-stamp.result ≡ max r.stamp c.args.item.now.stamp + 1 = omega (arith, c.if-stamp-gt-GREATEST_STAMP.false, c.max.ensures, c.saturating_add-stamp.ensures) in
     let p = c.index_mut.result.now in
-    let q : Peer = record { number = p.number; end = c.take_piece.new.self } in
+    let q : Peer = record { number = p.number; side = c.take_piece.new.self } in
     let ch : Changes r c.args.peer c.args.peer_at p q = record { place = found.2; here = c.index_mut.ensures.value; number = refl } in
     let same : p ≡ c.index.result.now = c.index_mut.ensures.value ∙ here_same r.peers c.args.peer c.args.peer_at p c.index.result.now found.2 ∙ sym c.index.ensures in
-    let free = ap (λ (w : Peer). is_waiting (side w.end).held) same ∙ sym c.is_waiting.ensures ∙ c.if-is_waiting.false in
+    let free = ap (λ (w : Peer). is_waiting (side w.side).held) same ∙ sym c.is_waiting.ensures ∙ c.if-is_waiting.false in
     let late : nat_lt GREATEST_STAMP (max r.stamp c.args.item.now.stamp + 1) ≡ false = grind (arith, nat_tests, c.if-stamp-gt-GREATEST_STAMP.false, next) in
-    let is = c.take_piece.ensures ∙ ap (fed (side p.end) c.in-Piece.epoch) c.as_slice.ensures.value in
+    let is = c.take_piece.ensures ∙ ap (fed (side p.side) c.in-Piece.epoch) c.as_slice.ensures.value in
     rw (c.in-Piece.is, next)
     (subst (λ (x : RouterView). Answers (Ok stepped.Did) x (Take c.args.peer c.args.item.now.stamp (item.Piece c.in-Piece.epoch c.in-Piece.octets)) (with_peer r c.args.peer_at q r.tables r.marks (max r.stamp c.args.item.now.stamp + 1))) c.self.view_is (λ g e ranks.
     takes_piece g r c.args.peer c.args.peer_at p (of_sound g r c.self.invariant e) found.2 c.index_mut.ensures.value found.1 c.args.item.now.stamp c.in-Piece.epoch c.in-Piece.octets q ch is free late))

@@ -24,8 +24,8 @@ pub returns-then-not-heeds-clause-takes : goal.returns-then-not-heeds-clause-tak
 returns-then-not-heeds-clause-takes c =
     let r = view_of c.self.inside in
     let place = subst (λ (x : RouterView). IsFound x.peers c.args.peer c.args.peer_at) (sym c.self.view_is) c.requires.place in
-    let stands : sides_of r c.args.peer ≡ side c.index.result.now.end =
-    side_here (side_opening (config_of r.net) r.net.settings.width) r.peers c.args.peer c.args.peer_at c.index.result.now place.2 ∙ ap (λ (w : Peer). side w.end) (sym c.index.ensures) in
+    let stands : sides_of r c.args.peer ≡ side c.index.result.now.side =
+    side_here (side_opening (config_of r.net) r.net.settings.width) r.peers c.args.peer c.args.peer_at c.index.result.now place.2 ∙ ap (λ (w : Peer). side w.side) (sym c.index.ensures) in
     let heeds : (is_up (sides_of r c.args.peer) && uses (sides_of r c.args.peer).link c.args.epoch) ≡ c.heeds.result = ap (λ (s : Side). is_up s && uses s.link c.args.epoch) stands ∙ sym c.heeds.ensures in
     subst (λ (x : RouterView). TakesMark (Ok stepped.Did) x c.args.peer c.args.epoch c.args.number c.args.stamp (at_stamp r r.marks c.args.stamp)) c.self.view_is
     (takes_nothing r c.args.peer c.args.epoch c.args.number c.args.stamp (heeds ∙ c.if-not-heeds.true))
@@ -34,8 +34,8 @@ pub returns-then-number-last-clause-takes : goal.returns-then-number-last-clause
 returns-then-number-last-clause-takes c =
     let r = view_of c.self.inside in
     let place = subst (λ (x : RouterView). IsFound x.peers c.args.peer c.args.peer_at) (sym c.self.view_is) c.requires.place in
-    let stands : sides_of r c.args.peer ≡ side c.index.result.now.end =
-    side_here (side_opening (config_of r.net) r.net.settings.width) r.peers c.args.peer c.args.peer_at c.index.result.now place.2 ∙ ap (λ (w : Peer). side w.end) (sym c.index.ensures) in
+    let stands : sides_of r c.args.peer ≡ side c.index.result.now.side =
+    side_here (side_opening (config_of r.net) r.net.settings.width) r.peers c.args.peer c.args.peer_at c.index.result.now place.2 ∙ ap (λ (w : Peer). side w.side) (sym c.index.ensures) in
     let heeds : (is_up (sides_of r c.args.peer) && uses (sides_of r c.args.peer).link c.args.epoch) ≡ c.heeds.result = ap (λ (s : Side). is_up s && uses s.link c.args.epoch) stands ∙ sym c.heeds.ensures in
     let greater : nat_lt r.marks.last c.args.number ≡ true = grind (arith, nat_tests, c.if-number-last.true, c.last.ensures) in
     subst (λ (x : RouterView). TakesMark c.records.result x c.args.peer c.args.epoch c.args.number c.args.stamp c.records.new.self) c.self.view_is
@@ -64,8 +64,8 @@ pub returns-clause-takes : goal.returns-clause-takes
 returns-clause-takes c =
     let r = view_of c.self.inside in
     let place = subst (λ (x : RouterView). IsFound x.peers c.args.peer c.args.peer_at) (sym c.self.view_is) c.requires.place in
-    let stands : sides_of r c.args.peer ≡ side c.index.result.now.end =
-    side_here (side_opening (config_of r.net) r.net.settings.width) r.peers c.args.peer c.args.peer_at c.index.result.now place.2 ∙ ap (λ (w : Peer). side w.end) (sym c.index.ensures) in
+    let stands : sides_of r c.args.peer ≡ side c.index.result.now.side =
+    side_here (side_opening (config_of r.net) r.net.settings.width) r.peers c.args.peer c.args.peer_at c.index.result.now place.2 ∙ ap (λ (w : Peer). side w.side) (sym c.index.ensures) in
     let heeds : (is_up (sides_of r c.args.peer) && uses (sides_of r c.args.peer).link c.args.epoch) ≡ c.heeds.result = ap (λ (s : Side). is_up s && uses s.link c.args.epoch) stands ∙ sym c.heeds.ensures in
     let less : nat_lt r.marks.last c.args.number ≡ false = grind (arith, nat_tests, c.if-number-last.false, c.last.ensures) in
     subst (λ (x : RouterView). TakesMark (Ok stepped.Did) x c.args.peer c.args.epoch c.args.number c.args.stamp (at_stamp r c.on_mark.new.self c.args.stamp)) c.self.view_is

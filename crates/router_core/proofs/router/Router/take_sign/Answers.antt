@@ -14,8 +14,8 @@ carry_out-requires-clause-fresh c = λ o.
     let found = subst (λ (x : RouterView). IsFound x.peers c.args.peer c.args.peer_at) (sym c.self.view_is) c.requires in
     let p = c.index.result.now in
     subst (λ (x : RouterView). KeepsFresh (sides_of x c.args.peer) NoMessage (draft x.own_open NoMessage c.draft_sign-made.result)) c.self.view_is
-    (keeps_here r c.args.peer c.args.peer_at p found.2 c.index.ensures c.self.invariant (draft r.own_open NoMessage c.draft_sign-made.result) (draft_sign r.own_open (side p.end) c.args.sign) c.draft_sign-made.ensures
-    (λ f. c.what_comes_keeps_fresh.ensures.signs r.own_open (side p.end) c.args.sign f (ap (λ (a : Draft). a.overflows) (sym c.draft_sign-made.ensures) ∙ o)))
+    (keeps_here r c.args.peer c.args.peer_at p found.2 c.index.ensures c.self.invariant (draft r.own_open NoMessage c.draft_sign-made.result) (draft_sign r.own_open (side p.side) c.args.sign) c.draft_sign-made.ensures
+    (λ f. c.what_comes_keeps_fresh.ensures.signs r.own_open (side p.side) c.args.sign f (ap (λ (a : Draft). a.overflows) (sym c.draft_sign-made.ensures) ∙ o)))
 
 pub returns-clause-takes : goal.returns-clause-takes
 returns-clause-takes c =

@@ -53,8 +53,8 @@ invariant_of-self c =
     let may = subst (λ (x : RouterView). MayTell x c.args.peer_at q) (sym c.self.view_is) c.requires.may in
     let p = c.index_mut.result.now in
     let is = c.index_mut.ensures.value in
-    let kept : Peer = record { number = p.number; end = c.reserve_path.new.self } in
-    let still : side kept.end ≡ sides_of r p.number = c.reserve_path.ensures.side ∙ here r c.self.invariant c.args.peer_at q may p is in
+    let kept : Peer = record { number = p.number; side = c.reserve_path.new.self } in
+    let still : side kept.side ≡ sides_of r p.number = c.reserve_path.ensures.side ∙ here r c.self.invariant c.args.peer_at q may p is in
     sound_still r c.self.invariant p.number c.args.peer_at (place r c.self.invariant c.args.peer_at q may p is) kept refl still
 
 pub returns-in_default-reserve_path-clause-tells : goal.returns-in_default-reserve_path-clause-tells
@@ -64,8 +64,8 @@ returns-in_default-reserve_path-clause-tells c =
     let may = subst (λ (x : RouterView). MayTell x c.args.peer_at q) (sym c.self.view_is) c.requires.may in
     let p = c.index_mut.result.now in
     let is = c.index_mut.ensures.value in
-    let kept : Peer = record { number = p.number; end = c.reserve_path.new.self } in
-    let still : side kept.end ≡ sides_of r p.number = c.reserve_path.ensures.side ∙ here r c.self.invariant c.args.peer_at q may p is in
+    let kept : Peer = record { number = p.number; side = c.reserve_path.new.self } in
+    let still : side kept.side ≡ sides_of r p.number = c.reserve_path.ensures.side ∙ here r c.self.invariant c.args.peer_at q may p is in
     let early : nat_lt GREATEST_STAMP (r.stamp + 1) ≡ false = c.in_ok-stamp.ensures.next.1 in
     subst (λ (x : RouterView). (v : ℕ) → IsAt x.peers v c.args.peer_at → Tells (Err error.Memory) x v q (with_peer_and_tables r c.args.peer_at kept r.tables r.stamp)) c.self.view_is (λ v at.
     rw early (refl, plain_still r c.self.invariant p.number c.args.peer_at (place r c.self.invariant c.args.peer_at q may p is) kept refl still))
@@ -93,8 +93,8 @@ invariant_of-self-in_default-tell_at c =
     let may = subst (λ (x : RouterView). MayTell x c.args.peer_at q) (sym c.self.view_is) c.requires.may in
     let p = c.index_mut.result.now in
     let is = c.index_mut.ensures.value in
-    let kept : Peer = record { number = p.number; end = c.reserve_path.new.self } in
-    let still : side kept.end ≡ sides_of r p.number = c.reserve_path.ensures.side ∙ here r c.self.invariant c.args.peer_at q may p is in
+    let kept : Peer = record { number = p.number; side = c.reserve_path.new.self } in
+    let still : side kept.side ≡ sides_of r p.number = c.reserve_path.ensures.side ∙ here r c.self.invariant c.args.peer_at q may p is in
     rw c.in_default-tell_at.ensures.err (sound_still r c.self.invariant p.number c.args.peer_at (place r c.self.invariant c.args.peer_at q may p is) kept refl still)
 
 pub returns-in_default-tell_at-clause-tells : goal.returns-in_default-tell_at-clause-tells
@@ -104,8 +104,8 @@ returns-in_default-tell_at-clause-tells c =
     let may = subst (λ (x : RouterView). MayTell x c.args.peer_at q) (sym c.self.view_is) c.requires.may in
     let p = c.index_mut.result.now in
     let is = c.index_mut.ensures.value in
-    let kept : Peer = record { number = p.number; end = c.reserve_path.new.self } in
-    let still : side kept.end ≡ sides_of r p.number = c.reserve_path.ensures.side ∙ here r c.self.invariant c.args.peer_at q may p is in
+    let kept : Peer = record { number = p.number; side = c.reserve_path.new.self } in
+    let still : side kept.side ≡ sides_of r p.number = c.reserve_path.ensures.side ∙ here r c.self.invariant c.args.peer_at q may p is in
     let early : nat_lt GREATEST_STAMP (r.stamp + 1) ≡ false = c.in_ok-stamp.ensures.next.1 in
     rw c.in_default-tell_at.ensures.err
     (subst (λ (x : RouterView). (v : ℕ) → IsAt x.peers v c.args.peer_at → Tells (Err error.Memory) x v q (with_peer_and_tables r c.args.peer_at kept r.tables r.stamp)) c.self.view_is (λ v at.
@@ -118,8 +118,8 @@ tell_path-requires-clause-up c =
     let may = subst (λ (x : RouterView). MayTell x c.args.peer_at q) (sym c.self.view_is) c.requires.may in
     let p = c.index_mut.result.now in
     let is = c.index_mut.ensures.value in
-    let kept : Peer = record { number = p.number; end = c.reserve_path.new.self } in
-    let still : side kept.end ≡ sides_of r p.number = c.reserve_path.ensures.side ∙ here r c.self.invariant c.args.peer_at q may p is in
+    let kept : Peer = record { number = p.number; side = c.reserve_path.new.self } in
+    let still : side kept.side ≡ sides_of r p.number = c.reserve_path.ensures.side ∙ here r c.self.invariant c.args.peer_at q may p is in
     ap is_up still ∙ up r c.self.invariant c.args.peer_at q may p is
 
 pub tell_path-requires-clause-sayable : goal.tell_path-requires-clause-sayable
@@ -129,7 +129,7 @@ tell_path-requires-clause-sayable c =
     let may = subst (λ (x : RouterView). MayTell x c.args.peer_at q) (sym c.self.view_is) c.requires.may in
     let p = c.index_mut.result.now in
     let width : (side c.reserve_path.new.self).width ≡ r.net.settings.width = ap (λ (s : Side). s.width) c.reserve_path.ensures.side ∙ has_width r c.self.invariant c.args.peer_at q may p c.index_mut.ensures.value in
-    subst (λ (w : Width). IsSayable w (UpdateMsg c.in-Ok.route)) (sym width) c.in-Ok.ensures.sayable
+    subst (λ (w : Width). IsSayable w (UpdateMsg c.in-Ok.told)) (sym width) c.in-Ok.ensures.sayable
 
 pub invariant_of-self-2 : goal.invariant_of-self-2
 invariant_of-self-2 c =
@@ -138,12 +138,12 @@ invariant_of-self-2 c =
     let may = subst (λ (x : RouterView). MayTell x c.args.peer_at q) (sym c.self.view_is) c.requires.may in
     let p = c.index_mut.result.now in
     let is = c.index_mut.ensures.value in
-    let told_peer : Peer = record { number = p.number; end = c.tell_path.new.self } in
-    let update : c.in-Ok.route ≡ telling (identifier r.net.routers r.number) q (path_of r.tables.kept q) =
+    let told_peer : Peer = record { number = p.number; side = c.tell_path.new.self } in
+    let update : c.in-Ok.told ≡ telling (identifier r.net.routers r.number) q (path_of r.tables.kept q) =
     c.in-Ok.ensures.update ∙ ap (telling (identifier r.net.routers r.number) q) c.path_at-path.ensures in
     let before : side c.reserve_path.new.self ≡ sides_of r p.number = c.reserve_path.ensures.side ∙ here r c.self.invariant c.args.peer_at q may p is in
-    let says : side told_peer.end ≡ told (sides_of r p.number) (telling (identifier r.net.routers r.number) q (path_of r.tables.kept q)) =
-    c.tell_path.ensures ∙ ap (λ (s : Side). told s c.in-Ok.route) before ∙ ap (told (sides_of r p.number)) update in
+    let says : side told_peer.side ≡ told (sides_of r p.number) (telling (identifier r.net.routers r.number) q (path_of r.tables.kept q)) =
+    c.tell_path.ensures ∙ ap (λ (s : Side). told s c.in-Ok.told) before ∙ ap (told (sides_of r p.number)) update in
     let few : r.stamp + 1 ≤ GREATEST_STAMP = grind (arith, nat_tests, c.in_ok-stamp.ensures.next.1) in
     rw c.in_ok-stamp.ensures.next.0
     (sound_told r c.self.invariant p.number c.args.peer_at (place r c.self.invariant c.args.peer_at q may p is) told_peer refl q (up r c.self.invariant c.args.peer_at q may p is) c.tell_at.new.self c.in-Ok-tell_at.ensures.ok says (r.stamp + 1) few)
@@ -155,12 +155,12 @@ returns-clause-tells c =
     let may = subst (λ (x : RouterView). MayTell x c.args.peer_at q) (sym c.self.view_is) c.requires.may in
     let p = c.index_mut.result.now in
     let is = c.index_mut.ensures.value in
-    let told_peer : Peer = record { number = p.number; end = c.tell_path.new.self } in
-    let update : c.in-Ok.route ≡ telling (identifier r.net.routers r.number) q (path_of r.tables.kept q) =
+    let told_peer : Peer = record { number = p.number; side = c.tell_path.new.self } in
+    let update : c.in-Ok.told ≡ telling (identifier r.net.routers r.number) q (path_of r.tables.kept q) =
     c.in-Ok.ensures.update ∙ ap (telling (identifier r.net.routers r.number) q) c.path_at-path.ensures in
     let before : side c.reserve_path.new.self ≡ sides_of r p.number = c.reserve_path.ensures.side ∙ here r c.self.invariant c.args.peer_at q may p is in
-    let says : side told_peer.end ≡ told (sides_of r p.number) (telling (identifier r.net.routers r.number) q (path_of r.tables.kept q)) =
-    c.tell_path.ensures ∙ ap (λ (s : Side). told s c.in-Ok.route) before ∙ ap (told (sides_of r p.number)) update in
+    let says : side told_peer.side ≡ told (sides_of r p.number) (telling (identifier r.net.routers r.number) q (path_of r.tables.kept q)) =
+    c.tell_path.ensures ∙ ap (λ (s : Side). told s c.in-Ok.told) before ∙ ap (told (sides_of r p.number)) update in
     let early : nat_lt GREATEST_STAMP (r.stamp + 1) ≡ false = c.in_ok-stamp.ensures.next.1 in
     let all : Tells (Ok stepped.Did) r p.number q (with_peer_and_tables r c.args.peer_at told_peer c.tell_at.new.self (r.stamp + 1)) =
     rw early (refl, plain_told r c.self.invariant p.number c.args.peer_at (place r c.self.invariant c.args.peer_at q may p is) told_peer refl q (up r c.self.invariant c.args.peer_at q may p is) c.tell_at.new.self c.in-Ok-tell_at.ensures.ok says (r.stamp + 1) refl) in

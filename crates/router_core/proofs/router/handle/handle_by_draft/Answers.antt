@@ -20,7 +20,7 @@ pub record-requires-clause-link : goal.record-requires-clause-link
 record-requires-clause-link c = link_on c.args.marks.now.unfinished c.copy_for.new.marks.unfinished c.args.peer c.copy_for.ensures.over c.requires.link
 
 pub reserve-requires-clause-own : goal.reserve-requires-clause-own
-reserve-requires-clause-own c = c.requires.own (side c.args.end.now).width
+reserve-requires-clause-own c = c.requires.own (side c.args.side.now).width
 
 pub draft_message-made-requires : goal.draft_message-made-requires
 draft_message-made-requires c = subst IsGoodEvent (sym c.opened-event.ensures.event) c.in_ok-read.ensures.reads.good
@@ -29,17 +29,17 @@ draft_message-made-requires c = subst IsGoodEvent (sym c.opened-event.ensures.ev
 pub carry_front-requires-clause-front : goal.carry_front-requires-clause-front
 carry_front-requires-clause-front c =
     let same = c.in_ok-reserve.ensures.side in
-    let before : IsInFront (side c.args.end.now).width (side c.args.end.now).held (hand c.opened-event.result.1) = (
+    let before : IsInFront (side c.args.side.now).width (side c.args.side.now).held (hand c.opened-event.result.1) = (
       c.requires.rule.0,
       c.args.peer,
-      c.opened-event.ensures.given ∙ ap at_hand c.in_ok-read.ensures.reads.read ∙ ap (λ (k : Rule). at_hand (front k (side c.args.end.now).held)) c.requires.rule.1,
+      c.opened-event.ensures.given ∙ ap at_hand c.in_ok-read.ensures.reads.read ∙ ap (λ (k : Rule). at_hand (front k (side c.args.side.now).held)) c.requires.rule.1,
     ) in
     subst (λ (s : Side). IsInFront s.width s.held (hand c.opened-event.result.1)) (sym same) before
 
 pub returns-clause-ok : goal.returns-clause-ok
 returns-clause-ok c =
     let o = c.args.own_open.now in
-    let s = side c.args.end.now in
+    let s = side c.args.side.now in
     let m = front c.args.rule.now s.held in
     let h = hand c.opened-event.result.1 in
     let a = draft o h c.draft_message-made.result in
@@ -57,7 +57,7 @@ returns-clause-ok c =
           ∙ ap (λ (e : FsmEvent). react o (at_hand m) (draft_of s.session s.link) e) event_is;
       side = c.carry_front.ensures.side ∙ ap (λ (z : Side). carried h (without_front z) a) reserved;
       hears = c.in_ok-hear.ensures.ok;
-      follows = subst (λ (z : Side). Followed c.hear.new.tables c.carry_front.new.tables c.args.peer (standing z) (standing (side c.carry_front.new.end))) reserved c.carry_front.ensures.tables;
+      follows = subst (λ (z : Side). Followed c.hear.new.tables c.carry_front.new.tables c.args.peer (standing z) (standing (side c.carry_front.new.side))) reserved c.carry_front.ensures.tables;
       writable = subst (λ (k : Result Message Fault). IfOk k (IsWritable c.args.rule.now)) read c.in_ok-read.ensures.reads.writable;
       sees =
           c.record.ensures.sees (update_acted a.acts h) c.in_ok-copy.ensures.copy

@@ -8,7 +8,7 @@ pub returns-in_err-reserve_marker-clause-same : goal.returns-in_err-reserve_mark
 returns-in_err-reserve_marker-clause-same c =
     let l = c.loop-peer in
     let p = c.peer-item.result in
-    let q : Peer = record { number = (get_or l.peer-items l.peer-index p).number; end = c.reserve_marker.new.self } in
+    let q : Peer = record { number = (get_or l.peer-items l.peer-index p).number; side = c.reserve_marker.new.self } in
     let v = c.args.peers.now in
     let many : v.len ≡ length v.items = omega (arith, v.ok.0) in
     let same =
@@ -20,7 +20,7 @@ pub loop-peer-preserved : goal.loop-peer-preserved
 loop-peer-preserved c =
     let l = c.loop-peer in
     let p = c.peer-item.result in
-    let q : Peer = record { number = (get_or l.peer-items l.peer-index p).number; end = c.reserve_marker.new.self } in
+    let q : Peer = record { number = (get_or l.peer-items l.peer-index p).number; side = c.reserve_marker.new.self } in
     record {
       same = passed_next (λ s. s) l.peer-index c.args.peers.now.items l.peer-items p q l.invariant.same (omega (arith, c.loop-peer-test.true)) refl c.reserve_marker.ensures.side;
       room = room_next l.peer-index l.peer-items q l.invariant.room c.in_ok-reserve_marker.ensures.room;

@@ -9,7 +9,7 @@ pub loop-peer-preserved : goal.loop-peer-preserved
 loop-peer-preserved c =
     let l = c.loop-peer in
     let p = c.peer-item.result in
-    let q : Peer = record { number = (get_or l.peer-items l.peer-index p).number; end = c.count_down.new.self } in
+    let q : Peer = record { number = (get_or l.peer-items l.peer-index p).number; side = c.count_down.new.self } in
     passed_next counted_down l.peer-index c.args.peers.now.items l.peer-items p q l.invariant (omega (arith, c.loop-peer-test.true)) refl c.count_down.ensures
 
 pub returns : goal.returns

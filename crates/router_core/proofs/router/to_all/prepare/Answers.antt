@@ -11,7 +11,7 @@ pub returns-in_err-reserve-clause-same : goal.returns-in_err-reserve-clause-same
 returns-in_err-reserve-clause-same c =
     let l = c.loop-peer in
     let p = c.peer-item.result in
-    let q : Peer = record { number = (get_or l.peer-items l.peer-index p).number; end = c.reserve.new.self } in
+    let q : Peer = record { number = (get_or l.peer-items l.peer-index p).number; side = c.reserve.new.self } in
     let v = c.args.peers.now in
     let many : v.len ≡ length v.items = omega (arith, v.ok.0) in
     let same =
@@ -23,7 +23,7 @@ pub returns-in_err-push-clause-same : goal.returns-in_err-push-clause-same
 returns-in_err-push-clause-same c =
     let l = c.loop-peer in
     let p = c.peer-item.result in
-    let q : Peer = record { number = (get_or l.peer-items l.peer-index p).number; end = c.reserve.new.self } in
+    let q : Peer = record { number = (get_or l.peer-items l.peer-index p).number; side = c.reserve.new.self } in
     let v = c.args.peers.now in
     let many : v.len ≡ length v.items = omega (arith, v.ok.0) in
     let same =
@@ -35,7 +35,7 @@ pub loop-peer-preserved : goal.loop-peer-preserved
 loop-peer-preserved c =
     let l = c.loop-peer in
     let p = c.peer-item.result in
-    let q : Peer = record { number = (get_or l.peer-items l.peer-index p).number; end = c.reserve.new.self } in
+    let q : Peer = record { number = (get_or l.peer-items l.peer-index p).number; side = c.reserve.new.self } in
     let D = draft_by c.args.event c.args.own_open.now in
     let made = c.drafted-made.result in
     record {

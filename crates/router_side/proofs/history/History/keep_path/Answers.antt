@@ -12,7 +12,7 @@ invariant_of-self c = (c.self.invariant.0, c.keep_path.ensures.kept)
 pub returns-clause-told : goal.returns-clause-told
 returns-clause-told c =
     let width = c.args.width in
-    let u = c.args.route.now in
+    let u = c.args.told.now in
     let bs = c.self.inside.full.items in
     let old = c.self.inside.last in
     let new = c.keep_path.new.self in

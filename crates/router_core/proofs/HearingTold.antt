@@ -17,7 +17,7 @@ use Rattle.rib_tables.specs.Owners.{RibView, HearsUpdate}
 use Rattle.snap_marker.specs.Parts.{MarkView, snapshots_of}
 use Rattle.router_model.specs.Sides.{Side, HasUpdate, at_hand, carried, front, draft_message, is_up, is_established, without_front}
 use Rattle.router_model.specs.State.{telling}
-use Rattle.router_side.specs.Acting.{IsRouteInFront, UpdatesAreActedOn}
+use Rattle.router_side.specs.Acting.{IsToldInFront, UpdatesAreActedOn}
 use Rattle.router_side.specs.SideOf.{acting, naming, IsInFront}
 use Rattle.router_core.specs.Following.{Followed, ComesUpAgain, standing}
 use Rattle.router_core.specs.Handling.{HandlesFront, seen_where}
@@ -32,18 +32,18 @@ pub tells : (id : ℕ) (q : PrefixView) (path : List ℕ) → TellsPath (telling
 tells id q [] = inr (refl, refl, refl)
 tells id q (v ∷ path) = inl (refl, refl, refl)
 
-pub at_hand_of : (s : Side) (v : ℕ) (u : Update) → IsRouteInFront s.width v s.held u → IsInFront s.width s.held (HasUpdate u)
-at_hand_of s v u route = (0, v, sym (ap at_hand (route.reads (naming s.width 0 v) refl refl)))
+pub at_hand_of : (s : Side) (v : ℕ) (u : Update) → IsToldInFront s.width v s.held u → IsInFront s.width s.held (HasUpdate u)
+at_hand_of s v u in_front = (0, v, sym (ap at_hand (in_front.reads (naming s.width 0 v) refl refl)))
 
 -- a session that stays up in its incarnation
 stays_by : (b : Bool) (e : ℕ) (t : RibView) (v : ℕ) → Followed t t v (cond b (Some e) None) (cond b (Some e) None)
 stays_by true e t v = subst (λ (c : Bool). ComesUpAgain c t t v) (sym (eq-eqb e e refl)) refl
 stays_by false e t v = refl
 
-module _ (law : UpdatesAreActedOn) (o : Message) (rule : Rule) (own v : ℕ) (s : Side) (u : Update) (up : is_up s ≡ true) (is : rule ≡ naming s.width own v) (route : IsRouteInFront s.width v s.held u) (x : MarkView)
+module _ (law : UpdatesAreActedOn) (o : Message) (rule : Rule) (own v : ℕ) (s : Side) (u : Update) (up : is_up s ≡ true) (is : rule ≡ naming s.width own v) (in_front : IsToldInFront s.width v s.held u) (x : MarkView)
     (none : x.unfinished ≡ None) where
   reads : front rule s.held ≡ Ok (UpdateMsg u)
-  reads = route.reads rule (ap (λ (r : Rule). r.width) is) (ap (λ (r : Rule). r.peer) is)
+  reads = in_front.reads rule (ap (λ (r : Rule). r.width) is) (ap (λ (r : Rule). r.peer) is)
 
   nothing_seen : snapshots_of x ≡ seen_where v (Some u) (snapshots_of x)
   nothing_seen = rw none refl
@@ -58,6 +58,6 @@ module _ (law : UpdatesAreActedOn) (o : Message) (rule : Rule) (own v : ℕ) (s 
     side = carries;
     hears = hears;
     follows = subst (λ (k : Side). Followed new new v (standing s) (standing k)) (sym carries) (stays_by (is_established s.session.state) s.link.epoch new v);
-    writable = subst (λ (m : Result Message Fault). IfOk m (IsWritable rule)) (sym reads) (subst (λ (w : Width). UpdateFits w u) (sym (ap (λ (r : Rule). r.width) is)) route.sayable.0);
+    writable = subst (λ (m : Result Message Fault). IfOk m (IsWritable rule)) (sym reads) (subst (λ (w : Width). UpdateFits w u) (sym (ap (λ (r : Rule). r.width) is)) in_front.sayable.0);
     sees = nothing_seen;
   }

@@ -1,7 +1,7 @@
 use Rattle.std.proofs.Common.{sym}
 use Rattle.router_core.specs.Views.{view_of}
 use Rattle.router_core.proofs.Showing.{stands}
-use Rattle.router_core.proofs.router.Router.end_at.Goals as goal
+use Rattle.router_core.proofs.router.Router.side_to.Goals as goal
 
 pub returns-clause-side : goal.returns-clause-side
 returns-clause-side c =
