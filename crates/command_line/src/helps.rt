@@ -275,12 +275,14 @@ Router 2 keeps the path that router 1 told it, and tells it so, so 'why 2' print
 
     router 2
     peer 1 Established incarnation 1
+      timers HoldTimer 90 KeepaliveTimer 30
     prefix 10.1.0.0/16 keeps 2-1
       from 1 1: 2-1, kept
       told 1
 
 'peer V STATE' is the session with V, and the number of the link that it stands on; 'outbox N': N
 octets wait to be put towards V; 'on its way': something of V was not taken or not handled yet.
+'timers': of the session each timer that runs, and the seconds that are left of it.
 'keeps PATH' is the path that the router keeps for the prefix, or 'none'. 'from V PATH: WHAT' is what
 V said last, and what the router makes of it: 'loop', the router stands in it; 'not permitted', its
 policy has not the path along it; or that path, its place in the 'rank' line, and whether it is kept.

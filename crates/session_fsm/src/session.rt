@@ -60,6 +60,34 @@ impl Session {
         self.state
     }
 
+    /// The seconds left of its ConnectRetryTimer, 0 if it is stopped (RFC 4271 section 8).
+    pub fn connect_retry_timer(&self) -> u16
+        ensures { result ≡ self.now.connect_retry_timer }
+    {
+        self.connect_retry_timer
+    }
+
+    /// The seconds left of its HoldTimer, 0 if it is stopped (RFC 4271 section 8).
+    pub fn hold_timer(&self) -> u16
+        ensures { result ≡ self.now.hold_timer }
+    {
+        self.hold_timer
+    }
+
+    /// The seconds left of its KeepaliveTimer, 0 if it is stopped (RFC 4271 section 8).
+    pub fn keepalive_timer(&self) -> u16
+        ensures { result ≡ self.now.keepalive_timer }
+    {
+        self.keepalive_timer
+    }
+
+    /// The seconds left of its RestartTimer, by which a session that closed starts again, 0 if it is stopped.
+    pub fn restart_timer(&self) -> u16
+        ensures { result ≡ self.now.restart_timer }
+    {
+        self.restart_timer
+    }
+
     /// The settings that it was made with.
     pub fn config(&self) -> SessionConfig
         ensures { result ≡ self.now.config }

@@ -5,6 +5,7 @@ use Rattle.std.specs.List.{flat_map, list_any}
 use Rattle.prefix_lanes.specs.Bits.{PrefixView}
 use Rattle.bgp_framing.specs.Held.{is_waiting}
 use Rattle.session_fsm.specs.declared.state.State.{State}
+use Rattle.session_fsm.specs.Table.{SessionView}
 use Rattle.session_fsm.specs.declared.state.State.TheVariants.{Idle, Connect, Active, OpenSent, OpenConfirm, Established}
 use Rattle.outbox.specs.declared.item.Item.{Item}
 use Rattle.outbox.specs.Items.{octets_waiting}
@@ -60,10 +61,31 @@ peer_line v state epoch waiting coming = line (session_text v state epoch ++ (ou
 abbrev pub is_coming : List Item → Side → Bool
 is_coming items s = is_some (slice_get items 0) || is_waiting s.held
 
-abbrev pub peer_text : ℕ → List Item → Side → List ℕ
-peer_text v items s = peer_line v s.session.state s.link.epoch (octets_waiting s.outbox) (is_coming items s)
+-- a timer and the seconds that are left of it, if it runs (RFC 4271 section 8)
+unfoldable pub timer_text : List ℕ → ℕ → List ℕ
+timer_text name seconds = if seconds == 0 then [] else name ++ decimal seconds
 
--- the lines of these peers, with what is in the pipe from each
+unfoldable pub timers_text : SessionView → List ℕ
+timers_text s =
+    timer_text (codes " ConnectRetryTimer ") s.connect_retry_timer
+    ++ (timer_text (codes " HoldTimer ") s.hold_timer
+    ++ (timer_text (codes " KeepaliveTimer ") s.keepalive_timer
+    ++ timer_text (codes " RestartTimer ") s.restart_timer))
+
+-- no timer runs
+abbrev pub is_still : SessionView → Bool
+is_still s =
+    (s.connect_retry_timer == 0) && ((s.hold_timer == 0) && ((s.keepalive_timer == 0) && (s.restart_timer == 0)))
+
+-- the line of the timers that run, if one does
+abbrev pub timers_line : SessionView → List ℕ
+timers_line s = if is_still s then [] else line (codes "  timers" ++ timers_text s)
+
+abbrev pub peer_text : ℕ → List Item → Side → List ℕ
+peer_text v items s =
+    peer_line v s.session.state s.link.epoch (octets_waiting s.outbox) (is_coming items s) ++ timers_line s.session
+
+-- the lines of these peers and of their timers, with what is in the pipe from each
 abbrev pub peers_text : (ℕ → Side) → (ℕ → List Item) → List ℕ → List ℕ
 peers_text sides pipes vs = flat_map (λ v. peer_text v (pipes v) (sides v)) vs
 

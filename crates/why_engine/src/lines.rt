@@ -2,12 +2,12 @@
 //! may leave a part of it.
 
 ghost use Rattle.std.specs.Prelude.{◌≡◌, ◌++◌, OnOk};
-ghost use Rattle.why_engine.specs.Explaining.{state_text, outbox_text, coming_text, number_text, behind_word, session_text, peer_line, originated_text, kept_line, told_line, router_line};
+ghost use Rattle.why_engine.specs.Explaining.{state_text, outbox_text, coming_text, number_text, behind_word, session_text, peer_line, timer_text, timers_text, is_still, timers_line, originated_text, kept_line, told_line, router_line};
 
 use net_text::{put_decimal, put_len, put_marked, put_numbers, put_prefixes};
 use prefix_lanes::Prefix;
 use ranked_policy::Asn;
-use session_fsm::State;
+use session_fsm::{Session, State};
 use std::alloc::AllocError;
 
 #[tactic(auto, unfolding(crate::specs::Explaining::state_text))]
@@ -88,6 +88,50 @@ pub(crate) fn put_peer_line(
     put_session(peer, state, epoch, out)?;
     put_outbox(waiting, out)?;
     out.extend_from_slice(coming_text(coming))?;
+    out.extend_from_slice(b"\n")
+}
+
+// Appends the name of a timer and the seconds that are left of it, if it runs.
+#[tactic(auto, unfolding(crate::specs::Explaining::timer_text))]
+fn put_timer(name: &[u8], seconds: u16, out: &mut Vec<u8>) -> Result<(), AllocError>
+    ensures { OnOk result (out.new.items ≡ out.old.items ++ timer_text name.now seconds) }
+{
+    if seconds == 0 {
+        return Ok(());
+    }
+    out.extend_from_slice(name)?;
+    put_decimal(out, u32::from(seconds))
+}
+
+#[tactic(auto, unfolding(crate::specs::Explaining::timers_text))]
+fn put_timers(session: &Session, out: &mut Vec<u8>) -> Result<(), AllocError>
+    ensures { OnOk result (out.new.items ≡ out.old.items ++ timers_text session.now) }
+{
+    put_timer(b" ConnectRetryTimer ", session.connect_retry_timer(), out)?;
+    put_timer(b" HoldTimer ", session.hold_timer(), out)?;
+    put_timer(b" KeepaliveTimer ", session.keepalive_timer(), out)?;
+    put_timer(b" RestartTimer ", session.restart_timer(), out)
+}
+
+// Whether no timer of a session runs.
+fn is_still(session: &Session) -> bool
+    ensures { result ≡ is_still session.now }
+{
+    session.connect_retry_timer() == 0
+        && session.hold_timer() == 0
+        && session.keepalive_timer() == 0
+        && session.restart_timer() == 0
+}
+
+/// Appends the timers of a session that run, with the seconds that are left; nothing if none does.
+pub(crate) fn put_timers_line(session: &Session, out: &mut Vec<u8>) -> Result<(), AllocError>
+    ensures { OnOk result (out.new.items ≡ out.old.items ++ timers_line session.now) }
+{
+    if is_still(session) {
+        return Ok(());
+    }
+    out.extend_from_slice(b"  timers")?;
+    put_timers(session, out)?;
     out.extend_from_slice(b"\n")
 }
 

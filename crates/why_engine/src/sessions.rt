@@ -5,9 +5,9 @@ ghost use Rattle.bgp_framing.specs.Held.{is_waiting};
 ghost use Rattle.outbox.specs.Items.{octets_waiting};
 ghost use Rattle.ranked_policy.specs.Plans.{IsRouter};
 ghost use Rattle.router_core.specs.Views.{sides_of};
-ghost use Rattle.why_engine.specs.Explaining.{ArePeers, IsPeer, is_coming, peer_line, peers_text, pipes_to};
+ghost use Rattle.why_engine.specs.Explaining.{ArePeers, IsPeer, is_coming, peer_line, timers_line, peers_text, pipes_to};
 
-use crate::lines::put_peer_line;
+use crate::lines::{put_peer_line, put_timers_line};
 use ranked_policy::Asn;
 use router_core::Router;
 use std::alloc::{AllocError, Global};
@@ -41,7 +41,7 @@ fn is_coming(alloc: Global, world: &World<'_>, router: &Router<'_>, peer: Asn) -
     is_in_pipe(world, router, peer) || is_unhandled(alloc, router, peer)
 }
 
-// Appends a peer.
+// Appends a peer, and the timers of the session with it.
 fn put_peer(
     router: &Router<'_>,
     peer: Asn,
@@ -52,15 +52,17 @@ fn put_peer(
     ensures { OnOk result
         (out.new.items
         ≡ out.old.items
-        ++ peer_line peer (sides_of router.now peer).session.state (sides_of router.now peer).link.epoch
-        (octets_waiting (sides_of router.now peer).outbox) coming) }
+        ++ (peer_line peer (sides_of router.now peer).session.state (sides_of router.now peer).link.epoch
+        (octets_waiting (sides_of router.now peer).outbox) coming
+        ++ timers_line (sides_of router.now peer).session)) }
 {
-    let Some(state) = router.state(peer) else {
+    let Some(session) = router.session(peer) else {
         return Ok(());
     };
     let epoch = router.epoch(peer).unwrap_or(0);
     let waiting = router.octets_waiting(peer).unwrap_or(0);
-    put_peer_line(peer, state, epoch, waiting, coming, out)
+    put_peer_line(peer, session.state(), epoch, waiting, coming, out)?;
+    put_timers_line(&session, out)
 }
 
 /// Appends the peers of a router.

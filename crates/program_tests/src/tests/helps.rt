@@ -28,7 +28,7 @@ static HELPS: [(&[&str], &str, u8); 7] = [
 ];
 
 // How the lines of outputs begin, but for the line `router 2`, with which a line of an input begins too.
-static PRINTED: [&str; 16] = [
+static PRINTED: [&str; 17] = [
     "open ",
     "keepalive",
     "fault ",
@@ -39,6 +39,7 @@ static PRINTED: [&str; 16] = [
     "route ",
     "flight ",
     "peer ",
+    "  timers ",
     "prefix ",
     "dispute ",
     "choice ",

@@ -1,7 +1,8 @@
-//! The laws of the engines, of settled snapshots, and of the number of stable assignments.
+//! The laws of the engines, of settled snapshots, of rest, and of the number of stable assignments.
 
 use net_workers::ScriptGate;
 use play_engine::laws::{cut_prints_one_text, play_prints_one_text, why_prints_one_text};
+use rest_runs::laws::{calm_runs_end, obeyed_rounds_come_to_rest, rounds_come_to_rest};
 use stable_runs::laws::{printed_are_listed, settled_are_listed};
 use stable_search::laws::{none_without_origin, stable_assignments_are_counted};
 use text_engines::laws::{check_prints_one_text, decode_prints_one_text};
@@ -26,6 +27,9 @@ fn each_law_holds_at_a_type() {
     printed_are_listed();
     routers_change_seldom::<ScriptGate>();
     safe_settle_in_one::<ScriptGate>();
+    calm_runs_end::<ScriptGate>();
+    rounds_come_to_rest::<ScriptGate>();
+    obeyed_rounds_come_to_rest::<ScriptGate>();
     stable_assignments_are_counted();
     none_without_origin();
 }
