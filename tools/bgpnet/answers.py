@@ -21,7 +21,7 @@ class Routes(Mapping[Tuple[int, Prefix], Path]):
 
     def __getitem__(self, key: tuple[int, Prefix | str]) -> Path:
         router, prefix = key
-        return self._paths[router, Prefix.read(prefix) if isinstance(prefix, str) else prefix]
+        return self._paths[router, Prefix.named(prefix) if isinstance(prefix, str) else prefix]
 
     def __iter__(self) -> Iterator[tuple[int, Prefix]]:
         return iter(self._paths)
@@ -37,7 +37,7 @@ class Routes(Mapping[Tuple[int, Prefix], Path]):
 
     def of(self, prefix: Prefix | str) -> dict[int, Path]:
         """The path of each router for one prefix."""
-        wanted = Prefix.read(prefix) if isinstance(prefix, str) else prefix
+        wanted = Prefix.named(prefix) if isinstance(prefix, str) else prefix
         return {router: path for (router, own), path in self.items() if own == wanted}
 
 
@@ -268,13 +268,14 @@ class Cut:
 @dataclass(frozen=True)
 class Session:
     """A router's session with a peer: its state, the last incarnation that the router dialled, how many octets wait in
-    the outbox, and whether something is on its way to the router."""
+    the outbox, whether something is on its way to the router, and of each timer that runs the seconds that are left."""
 
     peer: int
     state: str
     incarnation: int
     outbox: int
     on_its_way: bool
+    timers: Mapping[str, int] = field(default_factory=dict)
 
 
 @dataclass(frozen=True)
@@ -328,6 +329,8 @@ def read_why(lines: Sequence[str]) -> Why:
             sessions.append(Session(int(words[1]), words[2], int(words[4]),
                                     int(words[words.index("outbox") + 1]) if "outbox" in words else 0,
                                     line.endswith(" on its way")))
+        elif words[0] == "timers":
+            sessions[-1] = replace(sessions[-1], timers=dict(zip(words[1::2], map(int, words[2::2]))))
         elif words[0] == "prefix":
             prefixes.append([line])
         else:
@@ -413,7 +416,7 @@ def why_json(lines: Sequence[str]) -> Json:
     found = read_why(lines)
     return {"router": found.router,
             "peers": [{"peer": one.peer, "state": one.state, "incarnation": one.incarnation, "outbox": one.outbox,
-                       "on_its_way": one.on_its_way} for one in found.sessions],
+                       "on_its_way": one.on_its_way, "timers": dict(one.timers)} for one in found.sessions],
             "prefixes": [{"prefix": str(one.prefix), "keeps": path_text(one.keeps), "originated": one.originated,
                           "from": list(map(heard_json, one.heard)), "told": list(one.told)} for one in found.prefixes]}
 

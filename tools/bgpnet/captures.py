@@ -1,9 +1,21 @@
 """What the tools read of captures: the frames of a file, the TCP segments in them, and the streams that these make."""
+from __future__ import annotations
+
 import heapq
 import re
 import struct
+from dataclasses import dataclass
+from typing import Iterable, Iterator, Optional, Tuple, Union
 
+from bgpnet.messages import Octets
 from bgpnet.program import Refusal
+
+# The link type, the octets and the time of a frame; and of an interface of pcapng its link type, the most octets that
+# it keeps of a packet, its ticks a second, and the second at which it begins.
+Frame = Tuple[int, Octets, Optional[int]]
+Interface = Tuple[int, int, int, int]
+# An end: an address, and a port or the words that stand for it.
+End = Tuple[bytes, Union[int, str]]
 
 FIN, SYN, RST, ACK = 1, 2, 4, 16
 SECOND = 10**9
@@ -14,7 +26,7 @@ NEAR = 1 << 20
 
 # ---- frames of a capture file
 
-def frames(data, losses):
+def frames(data: Octets, losses: list[str]) -> Iterator[Frame]:
     """The link type, the octets and the time of each frame. What is wrong with the file is added to `losses`. Times are
     nanoseconds from the beginning of 1970, UTC, and None where the file says none."""
     if data[:4] == b"\x0a\x0d\x0d\x0a":
@@ -26,7 +38,7 @@ def frames(data, losses):
     raise Refusal("neither pcap, pcapng, MRT nor hex digits")
 
 
-def frames_of_records(data, order, unit, losses):
+def frames_of_records(data: Octets, order: str, unit: int, losses: list[str]) -> Iterator[Frame]:
     """Those of a pcap file, whose head says the link type of all; `unit` is that of its times, in nanoseconds."""
     if len(data) < 24:
         raise Refusal("the capture ends in its head")
@@ -48,23 +60,24 @@ def frames_of_records(data, order, unit, losses):
 class Short:
     """Packets of which less was kept than there was."""
 
-    def __init__(self, losses):
+    def __init__(self, losses: list[str]) -> None:
         self.losses, self.number, self.most = losses, 0, 0
 
-    def see(self, kept, whole):
+    def see(self, kept: int, whole: int) -> None:
         if kept < whole:
             self.number, self.most = self.number + 1, max(self.most, kept)
 
-    def tell(self):
+    def tell(self) -> None:
         """Says how many there are."""
         if self.number:
             self.losses.append(f"{self.number} packet{'s' * (self.number > 1)} of the capture cut short, at {self.most} "
                                "octets at most: capture whole ones (tcpdump -s 0)")
 
 
-def frames_of_blocks(data, losses):
+def frames_of_blocks(data: Octets, losses: list[str]) -> Iterator[Frame]:
     """Those of a pcapng file, whose blocks are in sections, each with its byte order and its interfaces."""
-    at, number, order, interfaces, short = 0, 0, "<", [], Short(losses)
+    at, number, order, short = 0, 0, "<", Short(losses)
+    interfaces: list[Interface] = []
     while at < len(data):
         number += 1
         if data[at:at + 4] == b"\x0a\x0d\x0d\x0a":
@@ -89,21 +102,21 @@ def frames_of_blocks(data, losses):
     short.tell()
 
 
-def frame_of_block(order, kind, body, interfaces):
+def frame_of_block(order: str, kind: int, body: Octets, interfaces: list[Interface]) -> Frame | None:
     """The link type, the octets and the time of a block with a packet; an interface's description joins the
     interfaces."""
     if kind == 1 and len(body) >= 8:
         link, _, most = struct.unpack_from(order + "HHI", body)
         interfaces.append((link, most, *clock_of(order, body[8:])))
-    heads = {2: ("HHIIII", 0, 4), 3: ("I", None, 0), 6: ("IIIII", 0, 3)}
+    heads: dict[int, tuple[str, int | None, int]] = {2: ("HHIIII", 0, 4), 3: ("I", None, 0), 6: ("IIIII", 0, 3)}
     if kind not in heads or len(body) < 4:
         return None
-    head, interface, captured = heads[kind]
+    head, at, captured = heads[kind]
     start = struct.calcsize(order + head)
     if len(body) < start:
         return None
     values = struct.unpack_from(order + head, body)
-    interface = 0 if interface is None else values[interface]
+    interface: int = 0 if at is None else values[at]
     if interface >= len(interfaces):
         return None
     link, most, ticks, offset = interfaces[interface]
@@ -114,7 +127,7 @@ def frame_of_block(order, kind, body, interfaces):
     return link, body[start:start + size], ticked * SECOND // ticks + offset * SECOND
 
 
-def clock_of(order, options):
+def clock_of(order: str, options: Octets) -> tuple[int, int]:
     """How many ticks an interface counts a second, and the second at which it begins, by its options."""
     ticks, offset, at = 10**6, 0, 0
     while at + 4 <= len(options):
@@ -132,15 +145,21 @@ def clock_of(order, options):
 
 # ---- segments of TCP
 
+@dataclass
 class Segment:
     """A TCP segment: its ends, what its head says, the octets of it that were captured, how many it had, and when."""
 
-    def __init__(self, source, target, sequence, acknowledged, flags, octets, size):
-        self.source, self.target, self.sequence, self.acknowledged = source, target, sequence, acknowledged
-        self.flags, self.octets, self.size, self.time = flags, octets, size, None
+    source: End
+    target: End
+    sequence: int
+    acknowledged: int
+    flags: int
+    octets: Octets
+    size: int
+    time: int | None = None
 
 
-def packet_of(link, frame):
+def packet_of(link: int, frame: Octets) -> Octets | None:
     """The IP packet of a frame, no octets where it has none, and None where the link type is not read."""
     if link == 1:
         return behind_tags(frame, 12)
@@ -153,14 +172,14 @@ def packet_of(link, frame):
     return frame if link in (12, 14, 101, 228, 229) else None
 
 
-def behind_tags(frame, at):
+def behind_tags(frame: Octets, at: int) -> Octets:
     """What stands behind the protocol at `at`, and behind the VLAN tags there; no octets where it is not IP."""
     while frame[at:at + 2] in (b"\x81\x00", b"\x88\xa8", b"\x91\x00"):
         at += 4
     return frame[at + 2:] if frame[at:at + 2] in (b"\x08\x00", b"\x86\xdd") else b""
 
 
-def tcp_of(packet):
+def tcp_of(packet: Octets) -> tuple[bytes, bytes, Octets, int] | None:
     """The addresses and the TCP octets of an IP packet, with the size that its head says; else None."""
     version = packet[0] >> 4 if packet else 0
     if version == 4 and len(packet) >= 20:
@@ -170,7 +189,7 @@ def tcp_of(packet):
     return None
 
 
-def tcp_of_four(packet):
+def tcp_of_four(packet: Octets) -> tuple[bytes, bytes, Octets, int] | None:
     size, fragment = struct.unpack_from(">H", packet, 2)[0], struct.unpack_from(">H", packet, 6)[0]
     start = (packet[0] & 15) * 4
     if packet[9] != 6 or fragment & 0x3FFF:
@@ -179,7 +198,7 @@ def tcp_of_four(packet):
     return bytes(packet[12:16]), bytes(packet[16:20]), packet[start:size], size - start
 
 
-def tcp_of_six(packet):
+def tcp_of_six(packet: Octets) -> tuple[bytes, bytes, Octets, int] | None:
     size, following, start = struct.unpack_from(">H", packet, 4)[0], packet[6], 40
     end = 40 + size if size else len(packet)
     while following in (0, 43, 44, 51, 60) and len(packet) >= start + 8:
@@ -193,7 +212,7 @@ def tcp_of_six(packet):
     return bytes(packet[8:24]), bytes(packet[24:40]), packet[start:end], end - start
 
 
-def segment_of(packet, port):
+def segment_of(packet: Octets, port: int) -> Segment | None:
     """The segment of a packet from or to a port, else None."""
     found = tcp_of(packet)
     if not found or len(found[2]) < 20:
@@ -215,18 +234,22 @@ class Stream:
     `octets` are those up to the first hole, `holes` the place and the size of each, `behind` how many octets stand
     behind the first, and `closed` says how the stream ends."""
 
-    def __init__(self, source, target):
-        self.source, self.target, self.closed = source, target, None
-        self.initial = None                                 # the sequence number of its SYN
-        self.base, self.near = None, 0                      # places count from the first number seen
-        self.begin, self.final = None, None                 # the places behind its SYN and at its FIN
+    def __init__(self, source: End | None, target: End | None) -> None:
+        self.source, self.target = source, target
+        self.closed: str | None = None
+        self.initial: int | None = None                     # the sequence number of its SYN
+        self.base: int | None = None                        # places count from the first number seen
+        self.near = 0
+        self.begin: int | None = None                       # the places behind its SYN and at its FIN
+        self.final: int | None = None
         self.least, self.last = 0, 0                        # what was seen stands between these places
-        self.pieces = []
-        self.octets, self.holes, self.behind = b"", [], 0
+        self.pieces: list[tuple[int, Octets, int | None]] = []
+        self.octets, self.behind = b"", 0
+        self.holes: list[tuple[int, int]] = []
         self.front = 0                                      # the place of its first octet
-        self.notes = []                                     # what stands between messages: place, text and time
+        self.notes: list[tuple[int, str, int]] = []         # what stands between messages: place, text and time
 
-    def place(self, sequence):
+    def place(self, sequence: int) -> int:
         """The place of a sequence number: the nearest to the last one, since the numbers wrap around."""
         if self.base is None:
             self.base = sequence
@@ -234,7 +257,7 @@ class Stream:
         self.near += ahead - (1 << 32) if ahead >> 31 else ahead
         return self.near
 
-    def add(self, segment):
+    def add(self, segment: Segment) -> None:
         if segment.flags & RST:
             self.closed = "RST"
             return
@@ -247,22 +270,23 @@ class Stream:
         if segment.flags & FIN:
             self.closed, self.final = "FIN", at + segment.size
 
-    def append(self, octets, time):
+    def append(self, octets: Octets, time: int | None) -> None:
         """Adds octets behind those that are there."""
         self.begin = 0
         self.pieces.append((self.last, octets, time))
         self.last += len(octets)
 
-    def note(self, text, time):
+    def note(self, text: str, time: int) -> None:
         """Adds what stands behind the octets that are there."""
         self.notes.append((self.last, text, time))
 
-    def join(self):
+    def join(self) -> None:
         """Puts the pieces together. Each octet counts once, and a place that no piece has is a hole."""
         self.pieces.sort(key=lambda piece: piece[0])
         last = self.last if self.final is None else self.final
         begin = self.begin if self.begin is not None else self.pieces[0][0] if self.pieces else last
-        parts, end = [], begin
+        parts: list[tuple[bool, Octets]] = []
+        end = begin
         for at, octets, _ in [*self.pieces, (last, b"", None)]:
             if at > end:
                 self.holes.append((end - begin, at - end))
@@ -274,9 +298,10 @@ class Stream:
         self.behind = sum(len(octets) for whole, octets in parts if not whole)
         self.front = begin
 
-    def times(self, ends):
+    def times(self, ends: Iterable[int]) -> Iterator[int | None]:
         """The time at which the octet before each of these rising places was captured first."""
-        waiting, pieces = [], iter(self.pieces)
+        waiting: list[tuple[int, int]] = []
+        pieces = iter(self.pieces)
         piece = next(pieces, None)
         for end in ends:
             end += self.front
@@ -293,18 +318,18 @@ class Connection:
     """A TCP connection: the stream of each of its ends. It doesn't say itself how its messages are written."""
     width, has_identifiers = None, False
 
-    def __init__(self, segment):
+    def __init__(self, segment: Segment) -> None:
         self.streams = {segment.source: Stream(segment.source, segment.target),
                         segment.target: Stream(segment.target, segment.source)}
 
-    def has(self, segment):
+    def has(self, segment: Segment) -> bool:
         """Whether a segment is of this connection, and not of a later one with its ports."""
         own, other = self.streams[segment.source], self.streams[segment.target]
         if not segment.flags & SYN:
             return True
         if own.initial is not None:
             return own.initial == segment.sequence
-        if own.pieces:  # the capture has its SYN behind its first octets
+        if own.pieces and own.base is not None:  # the capture has its SYN behind its first octets
             return (own.base + own.least - segment.sequence - 1) & 0xFFFFFFFF < NEAR
         if segment.flags & ACK and other.initial is not None and segment.acknowledged == other.initial + 1 & 0xFFFFFFFF:
             return True
@@ -315,19 +340,19 @@ class Spoken:
     """One stream without ends, of which nothing but its octets is known."""
     width, has_identifiers = None, False
 
-    def __init__(self, octets):
+    def __init__(self, octets: bytes) -> None:
         self.streams = {"said": Stream(None, None), "answered": Stream(None, None)}
         self.streams["said"].append(octets, None)
         for stream in self.streams.values():
             stream.join()
 
 
-def is_hex(data):
+def is_hex(data: Octets) -> bool:
     """Whether a file is a text of hex digits and blanks, as `decode` reads it."""
     return HEX.fullmatch(data) is not None
 
 
-def spoken_of(data):
+def spoken_of(data: Octets) -> list[Spoken]:
     """The stream that a text of hex digits is."""
     digits = bytes(data).translate(None, b" \t\r\n")
     if len(digits) % 2:
@@ -335,9 +360,11 @@ def spoken_of(data):
     return [Spoken(bytes.fromhex(digits.decode()))]
 
 
-def connections_of(data, port, losses):
+def connections_of(data: Octets, port: int, losses: list[str]) -> list[Connection]:
     """The connections of a capture in which octets pass from or to a port, in the order in which they begin."""
-    found, latest, unread = [], {}, {}
+    found: list[Connection] = []
+    latest: dict[frozenset[End], Connection] = {}
+    unread: dict[int, int] = {}
     for link, frame, time in frames(data, losses):
         packet = packet_of(link, frame)
         if packet is None:

@@ -3,7 +3,6 @@ from __future__ import annotations
 
 from html import escape
 from typing import Collection, Sequence
-from xml.sax.saxutils import quoteattr
 
 from bgpnet.layout import (LEAST_WIDTH, LINE, MARGIN, RADIUS, SLIDE, SMALL_LETTER, Curve, Drawn, Layout, Point, Texts,
                            along, distance, part_of, rule_texts)
@@ -71,7 +70,7 @@ class Canvas:
 
     def add(self, tag: str, text: str | None = None, **attributes: object) -> None:
         """Adds an element; an attribute `class_` is written `class`, and `x_1` is `x1`."""
-        spelt = "".join(f" {name.replace('_', '')}={quoteattr(str(value))}" for name, value in attributes.items())
+        spelt = "".join(f' {name.replace("_", "")}="{escape(str(value))}"' for name, value in attributes.items())
         inner = "/>" if text is None else f">{escape(printable(text), quote=False)}</{tag}>"
         self.elements.append(f"<{tag}{spelt}{inner}")
 

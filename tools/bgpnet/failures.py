@@ -7,7 +7,7 @@ from dataclasses import dataclass
 from typing import Collection, List, Mapping, Sequence, Tuple
 
 from bgpnet.answers import read_play
-from bgpnet.network import Ends, Link, Network, Path, Prefix, originations, starts
+from bgpnet.network import Ends, Link, Network, Path, Prefix, lines_text, originations, starts
 from bgpnet.orders import at_random, race_of
 from bgpnet.playing import Said, judgements, reached
 from bgpnet.program import Program, Refusal
@@ -151,7 +151,7 @@ class Player:
         return lines, places
 
     def text(self, stages: Sequence[Titled], last: list[str] | None = None) -> str:
-        return self.network.text + "".join(line + "\n" for line in self.schedule(stages, last)[0])
+        return self.network.text + lines_text(self.schedule(stages, last)[0])
 
     def states(self, failures: Sequence[tuple[Titled, Failure | None]]) -> list[StateBehind]:
         """The state behind each stage, the first of them that before; of the others each has its failure, or None where
@@ -195,7 +195,7 @@ class Player:
             behind = len(self.network.lines) + lines.index(f"rounds {self.bound}") + 1
         else:
             return None
-        text = self.network.text + "".join(line + "\n" for line in lines)
+        text = self.network.text + lines_text(lines)
         ends = range(places[-1] - number + 1, places[-1] + 1)
         outcome = outcome_of(self.program.trace(text, "the schedule"), behind, ends, self.network, closed)
         return outcome if isinstance(outcome, Again) else None

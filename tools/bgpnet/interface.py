@@ -43,10 +43,7 @@ def default_program() -> Program:
 
 
 def prefix_of(given: GivenPrefix) -> Prefix:
-    try:
-        return given if isinstance(given, Prefix) else Prefix.read(given)
-    except ValueError:
-        raise Refusal(f"'{given}' is no prefix") from None
+    return given if isinstance(given, Prefix) else Prefix.named(given)
 
 
 def path_of(given: GivenPath) -> str:
@@ -287,7 +284,7 @@ class Schedule:
     @property
     def text(self) -> str:
         """The whole text, as the program takes it."""
-        return self.network.text + "".join(line + "\n" for line in ("schedule", *self.orders))
+        return self.network.text + texts.lines_text(("schedule", *self.orders))
 
     def _answer(self, *words: str) -> list[str]:
         return self.network.program.answer(words, as_octets(self.text), self.network.name)
@@ -515,7 +512,7 @@ def build_network(links: Iterable[Link], origins: Mapping[GivenPrefix, int],
     lines += [f"link {one} {other}" for one, other in links]
     lines += [f"origin {router} {prefix}" for prefix, router in origins.items()]
     lines += [" ".join([f"rank {router} {prefix}", *map(path_of, paths)]) for (router, prefix), paths in rules.items()]
-    return Network("".join(line + "\n" for line in lines), name, program or default_program())
+    return Network(texts.lines_text(lines), name, program or default_program())
 
 
 def read_configurations(paths: Iterable[str], bird: Iterable[str] = (), best: int | None = None,
@@ -529,7 +526,7 @@ def read_configurations(paths: Iterable[str], bird: Iterable[str] = (), best: in
     of_bird = list(bird)
     routers = of_files.read_set({path: read_text(path) for path in [*paths, *of_bird]}, of_bird)
     lines, _ = of_ranks.network_lines(of_ranks.Ranks(routers), best)
-    return Network("".join(line + "\n" for line in lines), "the configurations", program or default_program())
+    return Network(texts.lines_text(lines), "the configurations", program or default_program())
 
 
 def decode(octets: bytes, width: int = 2, peer: int | None = None, program: Program | None = None) -> Decoded:

@@ -1,9 +1,12 @@
 """What the tools read of MRT files (RFC 6396), as collectors of routes write them: the messages and the changes of
 state of each peer, and the routes of a dump of tables."""
-import struct
+from __future__ import annotations
 
-from bgpnet.captures import SECOND, Stream
-from bgpnet.messages import HEAD, OPEN, UPDATE
+import struct
+from typing import Iterator
+
+from bgpnet.captures import SECOND, End, Stream
+from bgpnet.messages import HEAD, OPEN, UPDATE, Octets
 from bgpnet.program import Refusal
 
 TABLE_DUMP, TABLE_DUMP_V2, BGP4MP, BGP4MP_ET = 12, 13, 16, 17
@@ -28,17 +31,18 @@ class Peering:
     """What a collector recorded of one session with a peer: what each of the two said, and the width of the AS numbers
     that the records name, None where none has an UPDATE."""
 
-    def __init__(self, peer, local):
+    def __init__(self, peer: End, local: End) -> None:
         self.peer, self.local = Stream(peer, local), Stream(local, peer)
         self.streams = {"peer": self.peer, "local": self.local}
-        self.width, self.has_identifiers = None, False
+        self.width: int | None = None
+        self.has_identifiers = False
 
-    def meet(self, local):
+    def meet(self, local: End) -> None:
         """Learns the collector's end, which has no address before there is a connection."""
-        if not any(self.local.source[0]):
+        if self.local.source and not any(self.local.source[0]):
             self.peer.target = self.local.source = local
 
-    def takes(self, side, kind, width):
+    def takes(self, side: str, kind: int, width: int) -> bool:
         """Whether a message belongs to this session: an OPEN behind other messages begins another, and a stream is read
         by one width."""
         if kind == OPEN:
@@ -46,7 +50,7 @@ class Peering:
         return kind != UPDATE or self.width in (None, width)
 
 
-def is_mrt(data):
+def is_mrt(data: Octets) -> bool:
     """Whether a file begins with the head of a record."""
     if len(data) < RECORD:
         return False
@@ -54,7 +58,7 @@ def is_mrt(data):
     return kind in TYPES and subtype <= LAST_SUBTYPE and size <= MOST
 
 
-def records_of(data, losses):
+def records_of(data: Octets, losses: list[str]) -> Iterator[tuple[int, int, int, Octets]]:
     """The time, the type, the subtype and the body of each record."""
     at, number = 0, 0
     while at < len(data):
@@ -76,7 +80,7 @@ class Head:
     """What stands in front of each record of BGP4MP: two AS numbers, an interface and two addresses; and what stands
     behind that. None of a subtype or a family that is not read, and of a record that is too short."""
 
-    def __init__(self, subtype, body):
+    def __init__(self, subtype: int, body: Octets) -> None:
         numbers = ">IIHH" if subtype in WIDE else ">HHHH"
         peer, local, interface, family = struct.unpack_from(numbers, body)
         size, at = SIZES[family], struct.calcsize(numbers)
@@ -87,7 +91,7 @@ class Head:
         self.rest = bytes(body[at + 2 * size:])
 
 
-def head_of(subtype, body):
+def head_of(subtype: int, body: Octets) -> Head | None:
     """The head of a record, None where it is not read."""
     try:
         head = Head(subtype, body)
@@ -100,14 +104,15 @@ def head_of(subtype, body):
 class Peerings:
     """The sessions that were found, and the latest of each peer."""
 
-    def __init__(self):
-        self.found, self.latest = [], {}
+    def __init__(self) -> None:
+        self.found: list[Peering] = []
+        self.latest: dict[tuple[bytes, int], Peering] = {}
 
-    def begin(self, head):
+    def begin(self, head: Head) -> None:
         self.latest[head.key] = Peering(head.peer, head.local)
         self.found.append(self.latest[head.key])
 
-    def add(self, time, subtype, head):
+    def add(self, time: int, subtype: int, head: Head) -> None:
         """Adds a record to the session of its peer."""
         if head.key not in self.latest:
             self.begin(head)
@@ -117,7 +122,7 @@ class Peerings:
         else:
             self.add_message(time, subtype, head)
 
-    def add_change(self, time, head):
+    def add_change(self, time: int, head: Head) -> None:
         """A change that leaves Idle begins a session where the last one has messages."""
         before, after = struct.unpack_from(">HH", head.rest)
         latest = self.latest[head.key]
@@ -125,7 +130,7 @@ class Peerings:
             self.begin(head)
         self.latest[head.key].peer.note(f"state {STATES.get(before, before)} {STATES.get(after, after)}", time)
 
-    def add_message(self, time, subtype, head):
+    def add_message(self, time: int, subtype: int, head: Head) -> None:
         width, side, kind = 4 if subtype in WIDE else 2, "local" if subtype in LOCAL else "peer", head.rest[HEAD - 1]
         if not self.latest[head.key].takes(side, kind, width):
             self.begin(head)
@@ -136,12 +141,13 @@ class Peerings:
             latest.width = width
 
 
-def peerings_of(data, losses):
+def peerings_of(data: Octets, losses: list[str]) -> list[Peering]:
     """The sessions of an MRT file, in the order in which they begin. A dump of a table is refused."""
     first = struct.unpack_from(">H", data, 4)[0]
     if first in (TABLE_DUMP, TABLE_DUMP_V2):
         raise Refusal(f"a dump of a table ({TYPES[first]}, RFC 6396): it has routes, and no messages")
-    peerings, unread = Peerings(), {}
+    peerings = Peerings()
+    unread: dict[str, int] = {}
     for time, kind, subtype, body in records_of(data, losses):
         head = head_of(subtype, body) if kind == BGP4MP else None
         if head:
@@ -157,12 +163,12 @@ def peerings_of(data, losses):
     return peerings.found
 
 
-def is_table(data):
+def is_table(data: Octets) -> bool:
     """Whether the first record is of a dump of tables (TABLE_DUMP_V2)."""
-    return struct.unpack_from(">H", data, 4)[0] == TABLE_DUMP_V2
+    return bool(struct.unpack_from(">H", data, 4)[0] == TABLE_DUMP_V2)
 
 
-def table_routes(data, losses):
+def table_routes(data: Octets, losses: list[str]) -> Iterator[tuple[bytes, bytes]]:
     """The prefix, its length in front, and the attributes of each route of IPv4 in a dump of tables, whichever peer it
     is of. AS numbers have four octets."""
     for number, (_, kind, subtype, body) in enumerate(records_of(data, losses), 1):
@@ -173,7 +179,7 @@ def table_routes(data, losses):
                 losses.append(f"record {number} is no record of routes")
 
 
-def record_routes(body, identifier):
+def record_routes(body: Octets, identifier: int) -> Iterator[tuple[bytes, bytes]]:
     """The routes of a record. Each has a peer, a time, and maybe an identifier in front of its attributes."""
     size = 1 + (body[4] + 7) // 8
     prefix, at = bytes(body[4:4 + size]), 6 + size

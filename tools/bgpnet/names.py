@@ -43,7 +43,7 @@ def capability_text(code: int, value: bytes) -> str:
     name = CAPABILITIES.get(code, f"capability {code}")
     try:
         said = value_text(code, value)
-    except (struct.error, IndexError):
+    except (struct.error, IndexError, ValueError):
         said = f" of {len(value)} octets"
     return name + said
 

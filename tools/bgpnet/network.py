@@ -35,6 +35,10 @@ def read_address(word: str) -> int:
     return value
 
 
+# How a prefix is written.
+PREFIX_FORM = re.compile(r"(\d{1,9})\.(\d{1,9})\.(\d{1,9})\.(\d{1,9})/(\d{1,9})", re.ASCII)
+
+
 class Prefix(NamedTuple):
     """An IPv4 prefix: the bits of its address past its length are cleared. Prefixes are ordered as they are printed."""
 
@@ -46,6 +50,15 @@ class Prefix(NamedTuple):
         address, length = word.split("/")
         value, past = read_address(address), 32 - read_number(length)
         return Prefix(value >> past << past, 32 - past)
+
+    @staticmethod
+    def named(word: str) -> Prefix:
+        """The prefix that a word of a user names; refuses a word that names none."""
+        found = PREFIX_FORM.fullmatch(word)
+        parts = [read_number(part) for part in found.groups()] if found else []
+        if not parts or parts.pop() > 32 or max(parts) > 255:
+            raise Refusal(f"'{word}' is no prefix")
+        return Prefix.read(word)
 
     def covers(self, other: Prefix) -> bool:
         return self.length <= other.length and self.address >> 32 - self.length == other.address >> 32 - self.length
@@ -83,6 +96,11 @@ def path_text(path: Iterable[object]) -> str:
     return "-".join(map(str, path)) or "none"
 
 
+def lines_text(lines: Iterable[str]) -> str:
+    """Lines as a text, each with its end."""
+    return "".join(line + "\n" for line in lines)
+
+
 def words_of(line: str) -> list[str]:
     """The words of a line, none where the program skips it."""
     words = line.rstrip("\r").replace("\t", " ").split(" ")
@@ -101,8 +119,9 @@ def parts_of(text: str) -> tuple[list[str], str | None, list[str]]:
     return lines, None, []
 
 
-# How a comment says what one router is to another.
-RELATION = re.compile(r"# (\d+) (customer|peer) of (\d+)\s*")
+# How a comment names a router, and says what one router is to another.
+NUMBER_FORM = "([0-9]{1,10})"
+RELATION = re.compile(rf"# {NUMBER_FORM} (customer|peer) of {NUMBER_FORM}\s*")
 TURNED = {"customer": "provider", "peer": "peer"}
 
 
@@ -117,13 +136,14 @@ def relations_of(lines: Iterable[str]) -> Iterator[tuple[Link, str]]:
 
 
 # How a comment says where a router stands in a picture, in steps to the right and down, and what it is called.
-PLACE = re.compile(r"# (\d+) at (-?\d+(?:\.\d+)?) (-?\d+(?:\.\d+)?)\s*")
+STEPS_FORM = r"(-?[0-9]{1,9}(?:\.[0-9]{1,9})?)"
+PLACE = re.compile(rf"# {NUMBER_FORM} at {STEPS_FORM} {STEPS_FORM}\s*")
 NAME_FORM = r"[A-Za-z0-9_][A-Za-z0-9_.-]*"
-NAME = re.compile(rf"# (\d+) called ({NAME_FORM})\s*")
+NAME = re.compile(rf"# {NUMBER_FORM} called ({NAME_FORM})\s*")
 
 
 # How a comment says that a router keeps the routes of a peer that restarts, as FRR does by `bgp graceful-restart`.
-KEEPS = re.compile(r"# (\d+) keeps routes of peers that restart\s*")
+KEEPS = re.compile(rf"# {NUMBER_FORM} keeps routes of peers that restart\s*")
 
 
 # The comments that a text keeps which is written of a network.
@@ -234,7 +254,7 @@ class Network(Named):
             elif words[0] == "rank":
                 self.rules[first].append(Rule(Prefix.read(words[2]), [read_path(word) for word in words[3:]], number))
         self.routers.sort()
-        self.remarks = "".join(line + "\n" for line in lines if any(map(re.fullmatch, REMARKS, [line] * len(REMARKS))))
+        self.remarks = lines_text(line for line in lines if any(form.fullmatch(line) for form in REMARKS))
         self.places = {router: place for router, place in places_of(lines) if router in self.peers}
         for peers in self.peers.values():
             peers.sort()
@@ -242,7 +262,7 @@ class Network(Named):
 
     @property
     def text(self) -> str:
-        return "".join(line + "\n" for line in self.lines)
+        return lines_text(self.lines)
 
     def leave_out(self, links: Iterable[Ends]) -> None:
         """Leaves links out of `links` and `peers`. `text` has them."""

@@ -7,8 +7,8 @@ from dataclasses import dataclass
 from typing import Collection, Iterable, Mapping, Sequence, Tuple
 
 from bgpnet.answers import read_check, read_check_all, snapshot_of
-from bgpnet.network import (Ends, Network, Path, Prefix, RouteDict, parts_of, path_text, read_number, read_path, routes_of,
-                            words_of)
+from bgpnet.network import (Ends, Network, Path, Prefix, RouteDict, lines_text, parts_of, path_text, read_number,
+                            read_path, routes_of, words_of)
 from bgpnet.program import Program, Refusal, Refused
 from bgpnet.tracing import Moment, events_of, orders_of
 
@@ -24,8 +24,8 @@ def chosen_prefix(network: Network, word: str | None) -> Prefix | None:
     if word is None:
         return next(iter(network.origins), None)
     try:
-        prefix = Prefix.read(word)
-    except ValueError:
+        prefix: Prefix | None = Prefix.named(word)
+    except Refusal:
         prefix = None
     if prefix not in network.origins:
         raise Refusal(f"no origin has the prefix {word}")
@@ -136,7 +136,7 @@ def part_text(network: Network, part: frozenset[int], prefixes: Collection[Prefi
     lines.append("assignment")
     lines += [f"path {router} {prefix} {path_text(routes[router, prefix])}" for prefix in prefixes
               for router in network.routers if router in part]
-    return "".join(line + "\n" for line in lines)
+    return lines_text(lines)
 
 
 def judgements(program: Program, network: Network, routes: Mapping[tuple[int, Prefix], Path],

@@ -132,8 +132,10 @@ def write_text(text: str) -> None:
 
 
 def refused(name: str, said: str) -> Refused:
-    """The refusal of a text, by what the program said of it on the standard error: why, and what may have been meant."""
-    (line, why), *hints = SAID.findall(said) or [("", said.strip() or "the program refuses it")]
+    """The refusal of a text, by what the program said of it on the standard error: the first that names a line, which is
+    why, and behind it what may have been meant."""
+    found = SAID.findall(said) or [("", said.strip() or "the program refuses it")]
+    (line, why), *hints = found[next((at for at, (line, _) in enumerate(found) if line), 0):]
     return Refused(name, int(line or 0), why, [hint for _, hint in hints])
 
 

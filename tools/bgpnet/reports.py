@@ -2,10 +2,14 @@
 from __future__ import annotations
 
 import json
-from typing import Any, Mapping
+from typing import Any, Iterator, Mapping
 
 from bgpnet.network import Path, Prefix, RouteDict, read_path, words_of
 from bgpnet.program import Refusal
+
+
+# How many letters of a path are shown that can't be read.
+MOST_SHOWN = 200
 
 
 def is_json(text: str) -> bool:
@@ -24,8 +28,8 @@ def of_lines(text: str, name: str) -> RouteDict:
         words = words_of(line)
         if words[:1] in (["route"], ["path"]):
             try:
-                routes[int(words[1]), Prefix.read(words[2])] = read_path(words[3])
-            except (ValueError, IndexError):
+                routes[int(words[1]), Prefix.named(words[2])] = read_path(words[3])
+            except (Refusal, ValueError, IndexError):
                 raise Refusal(f"{name}:{number}: no `route AS PREFIX PATH`") from None
     return routes
 
@@ -38,13 +42,19 @@ def of_json(text: str, name: str) -> RouteDict:
         tables = said.get("routes") if isinstance(said, dict) else None
         if not isinstance(own, int) or not isinstance(tables, dict):
             raise Refusal(f"{name}: no `show bgp ipv4 unicast json` of FRR: it has `localAS` and `routes`")
-        for word, paths in tables.items():
-            best = next((path for path in paths if isinstance(path, dict) and path.get("bestpath") in (True, "true")
-                         or isinstance(path, dict) and isinstance(path.get("bestpath"), dict)
-                         and path["bestpath"].get("overall")), None) if isinstance(paths, list) else None
-            if best is not None:
-                routes[own, prefix_of(word, name)] = (own, *numbers_of(best, name))
+        for prefix, path in best_paths(tables, name):
+            routes[own, prefix] = (own, *numbers_of(path, name))
     return routes
+
+
+def best_paths(tables: Mapping[str, Any], name: str) -> Iterator[tuple[Prefix, Mapping[str, Any]]]:
+    """The best path of each prefix in the `routes` of FRR's JSON, if it has one."""
+    for word, paths in tables.items():
+        for path in paths if isinstance(paths, list) else ():
+            best = path.get("bestpath") if isinstance(path, dict) else None
+            if best in (True, "true") or isinstance(best, dict) and best.get("overall"):
+                yield prefix_of(word, name), path
+                break
 
 
 def objects_of(text: str, name: str) -> list[Any]:
@@ -65,17 +75,19 @@ def objects_of(text: str, name: str) -> list[Any]:
 
 def prefix_of(word: str, name: str) -> Prefix:
     try:
-        return Prefix.read(word)
-    except ValueError:
-        raise Refusal(f"{name}: '{word}' is no prefix") from None
+        return Prefix.named(word)
+    except Refusal as why:
+        raise Refusal(f"{name}: {why}") from None
 
 
 def numbers_of(path: Mapping[str, Any], name: str) -> Path:
     """The AS numbers of a path as FRR has it."""
     said = path.get("path", "")
+    said = said.get("string", "") if isinstance(said, dict) else said
     if not isinstance(said, str):
-        said = said.get("string", "") if isinstance(said, dict) else ""
+        raise Refusal(f"{name}: no path of AS numbers")
     words = [word for word in said.split() if word not in ("i", "e", "?", "Local")]
-    if not all(word.isdigit() for word in words):
-        raise Refusal(f"{name}: a path with a set of AS numbers: {said}")
+    if not all(word.isascii() and word.isdigit() and len(word) <= 10 for word in words):
+        what = "a path with a set of AS numbers" if "{" in said else "no path of AS numbers"
+        raise Refusal(f"{name}: {what}: {said[:MOST_SHOWN]}")
     return tuple(map(int, words))

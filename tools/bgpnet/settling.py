@@ -8,7 +8,7 @@ from typing import Any, Dict, Iterable, Iterator, List, Mapping, NamedTuple, Seq
 from bgpnet import jobs
 from bgpnet.answers import Rim, read_play
 from bgpnet.live import GaveUp, live_paths, shortest_paths
-from bgpnet.network import Link, Network, Path, Prefix, originations, path_text, starts
+from bgpnet.network import Link, Network, Path, Prefix, lines_text, originations, path_text, starts
 from bgpnet.orders import MOST_LINES, at_random, lock_step, race_of
 from bgpnet.playing import Said, judgements
 from bgpnet.program import Program, Refusal
@@ -130,7 +130,7 @@ class Order:
         return [f"rounds {number}"] if self.round == ["rounds 1"] else self.round * number
 
     def text(self, lines: Sequence[str]) -> str:
-        return self.network.text + "".join(line + "\n" for line in lines)
+        return self.network.text + lines_text(lines)
 
     def whole(self) -> str:
         """The text with its snapshot, which the markers of that go round behind it."""
@@ -231,7 +231,7 @@ class Timing:
         self.ends: list[tuple[End, HearingOrder, str]] = []
         orders = shortest_orders(network, prefix)
         for end, order in (orders or {}).items():
-            text = network.text + "".join(line + "\n" for line in ["schedule", *schedule_of(network, prefix, order)])
+            text = network.text + lines_text(["schedule", *schedule_of(network, prefix, order)])
             said = program.answer(["play"], text, "an order")
             routes = read_play(said).routes
             if all(routes[router, prefix] == path for router, path in end):

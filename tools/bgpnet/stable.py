@@ -6,7 +6,7 @@ from typing import Collection, Mapping, Sequence
 
 from bgpnet.answers import read_safe, read_stable
 from bgpnet.live import GaveUp
-from bgpnet.network import GREATEST_OF_TWO_OCTETS, MOST_PATHS, Path, path_text
+from bgpnet.network import GREATEST_OF_TWO_OCTETS, MOST_PATHS, Path, lines_text, path_text
 from bgpnet.program import Program, Refusal
 
 # The prefix that the program is asked about, and the most choices of a dispute, if no more are asked for.
@@ -27,7 +27,7 @@ def network_text(paths: Mapping[int, Sequence[Path]], origin: int, free: Collect
             lines.append(f"rank {router} {PREFIX} {' '.join(map(path_text, own))}")
         elif router not in free:
             raise GaveUp(f"router {router} has more than {MOST_PATHS} paths")
-    return "".join(line + "\n" for line in lines)
+    return lines_text(lines)
 
 
 def stable_assignments(program: Program, paths: Mapping[int, Sequence[Path]], origin: int, most: int,

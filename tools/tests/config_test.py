@@ -18,12 +18,11 @@ from config_cases import CASES, HEAD, ONE, OUT1, OUT2, Q, TWO, between, diamond,
 
 from bgpnet.configs.communities import community_text, large_text
 from bgpnet.configs.ends import Judge
-from bgpnet.configs.files import set_of
+from bgpnet.configs.files import read_router, set_of
 from bgpnet.configs.order import Order, Tie
 from bgpnet.configs.outside import Outside
 from bgpnet.configs.random_sets import make
 from bgpnet.configs.ranks import Ranks, network_lines, schedule_lines
-from bgpnet.configs.reader import read_router
 from bgpnet.configs.regular import BadExpression, expression
 from bgpnet.configs.routes import ORIGINS, Route
 from bgpnet.configs.telling import Names, explain, orders_of, play, read_routes, tie_ends, verify
@@ -129,8 +128,14 @@ class PassedOver(unittest.TestCase):
                 names.append(str(pathlib.Path(folder, name)))
                 pathlib.Path(names[-1]).write_text(text.replace("router bgp 65001", "router bgp 65001\n bgp dampening"))
             status, out, error = run("config", *names)
+            other = pathlib.Path(folder, "other.conf")
+            other.write_text(pathlib.Path(names[0]).read_text().replace("bgp dampening", "redistribute static"))
+            both = run("config", "--check", *names, "--", other, names[1])
         self.assertEqual((status, out, error.count("\n")), (1, "", 2), error)
         self.assertTrue(all(line.startswith("config: ") for line in error.splitlines()))
+        self.assertEqual(both[:2], (1, ""))
+        self.assertEqual(both[2].splitlines()[:2], error.splitlines())
+        self.assertRegex(both[2].splitlines()[2], "other.conf:\\d+: 'redistribute static'")
 
     def test_what_waits_and_what_is_kept(self):
         routers = read_set(pair("", "bgp graceful-restart / neighbor 10.255.1.1 graceful-restart / "
@@ -1144,6 +1149,6 @@ class Odd(unittest.TestCase):
             for part in ("\n".join(lines[:at]), "\n".join(lines[:at] + lines[at + 1:]),
                          "\n".join(lines[:at] + [lines[at][:len(lines[at]) // 2]])):
                 try:
-                    read_router(part, "r2.conf")
+                    read_router(part, "r2.conf", False)
                 except Refusal as why:
                     self.assertRegex(str(why), r"^r2\.conf:\d+: ")

@@ -7,7 +7,7 @@ import subprocess
 import tempfile
 import unittest
 
-from support import TOP, program_path
+from support import TOP, program_path, run
 
 import bgpnet
 from bgpnet.program import SAID, Program
@@ -111,11 +111,10 @@ class Documents(unittest.TestCase):
     def test_each_tool_has_a_help_with_an_example(self):
         for tool in ("ask", "streams", "topology", "settle", "lint", "whatif", "config", "beside", "beside_frr", "draw", "film",
                      "chart", "player", "handout", "package", "pictures", "test"):
-            path = TOP / "tools" / tool
-            self.assertTrue(os.access(path, os.X_OK))
-            done = subprocess.run([path, "--help"], capture_output=True, text=True)
-            self.assertEqual((done.returncode, done.stderr), (0, ""))
-            self.assertIn(f"    tools/{tool}", done.stdout)
+            self.assertTrue(os.access(TOP / "tools" / tool, os.X_OK))
+            status, out, error = run(tool, "--help")
+            self.assertEqual((status, error), (0, ""))
+            self.assertIn(f"    tools/{tool}", out)
             self.assertIn(f"tools/{tool}", (TOP / "tools/README.md").read_text())
 
 
@@ -154,7 +153,7 @@ class Sheets(unittest.TestCase):
     def test_words_of_a_sheet(self):
         played = self.NETWORK + "schedule\nstart 1 2\nstart 2 1\noriginate 1 10.1.0.0/16\nrounds 40\n"
         why = "# words: why 2\n# answer: router 2\n# answer: peer 1 Established incarnation 1\n" \
-              "# answer: prefix 10.1.0.0/16 keeps 2-1\n# answer:   from 1 1: 2-1, kept\n# answer:   told 1\n" + played
+              "# answer:   timers HoldTimer 90 KeepaliveTimer 30\n# answer: prefix 10.1.0.0/16 keeps 2-1\n# answer:   from 1 1: 2-1, kept\n# answer:   told 1\n" + played
         trace = "# words: trace\n# answer: router 1 10.0.0.1\n# answer: schedule\n# answer: # line 5: nothing to do\n" \
                 "router 1 10.0.0.1\nschedule\ndecide 1\n"
         run = "# words: run --turns 3000\n# answer: route 1 10.1.0.0/16 1\n# answer: route 2 10.1.0.0/16 2-1\n" + self.NETWORK

@@ -7,7 +7,7 @@ import tempfile
 import unittest
 import zipfile
 
-from support import run
+from support import pictures_missing, run
 
 
 class Handout(unittest.TestCase):
@@ -31,6 +31,7 @@ class Handout(unittest.TestCase):
                 self.assertEqual((done.returncode, done.stderr), (0, ""))
             self.assertIn("examples/play/session.txt", (place / "START.txt").read_text())
             self.assertIn("class/examples/SOLUTIONS.md", names)
+            self.assertEqual(pictures_missing(place), [])
 
     def test_without_answers(self):
         with tempfile.TemporaryDirectory() as folder:

@@ -97,6 +97,34 @@ class Hostile(unittest.TestCase):
                 self.ends("config", "--verify", other, *names)
                 self.ends("whatif", "examples/disagree.txt", "--fail", "1-2", "--from", other)
 
+    def test_what_looks_like_a_number(self):
+        """A letter that Python calls a digit, more digits than it reads, and other values than FRR's JSON has."""
+        wedgie, potato = (sorted((TOP / "examples/config" / name).glob("*.conf")) for name in ("wedgie", "hot-potato"))
+        many, of_west = b"9" * 5000, b'{"localAS": 1, "routerId": "10.255.0.1", "routes": {%s}}'
+        with tempfile.TemporaryDirectory() as place:
+            given = pathlib.Path(place, "given")
+            for number in (b"\xb2", many):
+                given.write_bytes(b"10.0.0.0/8 65009 " + number + b"\n")
+                self.ends("config", "--external", 65009, given, *wedgie)
+                given.write_bytes(b"hostname r" + number + b"\n" + potato[0].read_bytes())
+                self.ends("config", given, *potato[1:])
+                given.write_bytes(b"bgp community-list " + number + b" permit 1:1\n" + potato[0].read_bytes())
+                self.ends("config", given, *potato[1:])
+            for routes in (b'"x": [{"bestpath": true}]', b'"10.9.0.0/16": 5', b'"10.9.0.0/16": [{"bestpath": true, "peerId": []}]',
+                           b'"10.1.0.0/16": [{"bestpath": true, "path": "' + many + b'"}]', b'"10.1.0.0/16": [[], {"bestpath": {}}]',
+                           b'"10.1.0.0/16": [{"bestpath": true, "path": "\\u00b2"}]', b'"300.0.0.0/8": [{"bestpath": true}]',
+                           b'"10.1.0.0/16": [{"bestpath": true, "path": {"string": {}}}]'):
+                for text in (of_west % routes, (of_west % routes).replace(b'"10.255.0.1"', b"[]")):
+                    given.write_bytes(text)
+                    self.ends("config", "--verify", given, *wedgie)
+                    self.ends("config", "--verify", given, *potato)
+        for line in (b"# 2 at " + b"9" * 400 + b" 0", b"# " + many + b" customer of 2", b"# " + many + b" called x"):
+            self.ends("draw", "-", given=NETWORK + line + b"\n")
+        for prefix in ("300.0.0.0/8", "10.0.0.0/33", "1_0.0.0.0/8", "+1.0.0.0/8", f"10.0.0.0/{'9' * 5000}", "\xb2.0.0.0/8"):
+            self.ends("chart", "--prefix", prefix, "examples/play/session.txt")
+            self.ends("streams", "--decode", "--prefix", prefix, "examples/session.pcap")
+            self.ends("draw", "--prefix", prefix, "examples/disagree.txt")
+
     def test_files(self):
         with tempfile.TemporaryDirectory() as place:
             for at, text in enumerate(WHOLE[:6]):

@@ -96,6 +96,15 @@ class NoOrder(unittest.TestCase):
             said = refusal_of(texts)
             self.assertTrue(all("no order" in one for one in said), said)
 
+    def test_a_way_that_comes_back_to_a_router(self):
+        """By a neighbor that excludes the AS from the path; the line is that by which it does."""
+        files = Net("a1 b1 x2 o4", "a-b, a-x, b-x, a-o", top={"x": MAP + "as-path exclude 65001"},
+                    family={"x": "neighbor {b} route-map M out"}).files()
+        said = refusal_of(files)
+        place = f"x.conf:{1 + files['x.conf'].splitlines().index('set as-path exclude 65001')}: {ONE}: "
+        self.assertEqual([why[:len(place)] for why in said], [place], said)
+        self.assertIn("a-b-x-a-o is permitted, and passes a twice", said[0])
+
     def test_a_choice_by_age(self):
         files = {name: text.replace(" bgp bestpath compare-routerid\n", "") for name, text in
                  Net("a1 b1 x2 y3 o4", "a-b, a-x, a-y, x-o, y-o").files().items()}

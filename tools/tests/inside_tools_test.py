@@ -268,6 +268,14 @@ class Becomes(Folder):
         self.assertEqual(status, 3)
         self.assertIn("without a route: 3 hub", out)
 
+    def test_what_does_not_rest_before(self):
+        status, out, error = run("whatif", "examples/ring.txt", "--becomes", "examples/ring.txt")
+        self.assertEqual((status, error), (3, ""))
+        self.assertIn("it does not rest in the order of `rounds` before it becomes another", out)
+        status, out, _ = run("whatif", "examples/ring.txt", "--becomes", "examples/ring.txt", "--json")
+        said = json.loads(out)
+        self.assertEqual((status, said["status"], said["prefixes"], said["before"]["rests"]), (3, 3, [], False))
+
     def test_several_ends_and_none(self):
         def network(*ranks):
             lines = [f"router {place} 10.0.0.{place}" for place in (1, 2, 3, 4)] + ["link 1 2", "link 1 3", "link 1 4",

@@ -76,8 +76,9 @@ class Types(unittest.TestCase):
             for name, text in (("typed.py", TYPED), ("mistaken.py", MISTAKEN)):
                 pathlib.Path(folder, name).write_text(text)
             done = subprocess.run(
-                ["mypy", "--strict", "--config-file", "pyproject.toml", "--cache-dir", os.devnull, "tools/bgpnet",
-                 f"{folder}/typed.py", f"{folder}/mistaken.py"], cwd=TOP, capture_output=True, text=True)
+                ["mypy", "--strict", "--config-file", "pyproject.toml", "--cache-dir", os.devnull,
+                 *glob.glob(str(TOP / "tools/bgpnet/*.py")), f"{folder}/typed.py", f"{folder}/mistaken.py"],
+                cwd=TOP, capture_output=True, text=True)
         errors = [line for line in done.stdout.splitlines() if ": error: " in line]
         self.assertTrue(all("mistaken.py" in line for line in errors), done.stdout)
         self.assertEqual([int(line.split(":")[1]) for line in errors], [3, 4, 5])

@@ -11,12 +11,6 @@ from support import TOP, program_path
 LESSON = TOP / "examples/lesson.ipynb"
 
 
-def has_jupyter():
-    """Whether a notebook can be executed here."""
-    return bool(shutil.which("jupyter")) and not subprocess.run(
-        ["jupyter", "nbconvert", "--version"], capture_output=True).returncode
-
-
 def outputs_of(notebook):
     """What each cell of code prints and shows."""
     return [[(one.get("name"), "".join(one.get("text", "")), {kind: "".join(said) for kind, said in one.get("data", {}).items()})
@@ -31,12 +25,11 @@ class Lesson(unittest.TestCase):
         self.assertGreater(sum("image/svg+xml" in data for cell in outputs for _, _, data in cell), 3)
         self.assertTrue(all(outputs))
 
+    @unittest.skipUnless(shutil.which("jupyter-nbconvert"), "there is no jupyter nbconvert, so no notebook is executed")
     def test_what_its_cells_say(self):
-        if not has_jupyter():
-            self.skipTest("there is no jupyter nbconvert, so no notebook is executed")
         with tempfile.TemporaryDirectory() as folder:
             done = subprocess.run(
-                ["jupyter", "nbconvert", "--to", "notebook", "--execute", "--stdout", str(LESSON)], capture_output=True, text=True,
+                ["jupyter-nbconvert", "--to", "notebook", "--execute", "--stdout", str(LESSON)], capture_output=True, text=True,
                 env=dict(os.environ, BGPNET=program_path, PYTHONPATH=str(TOP / "tools"), HOME=folder, JUPYTER_RUNTIME_DIR=folder))
             self.assertEqual(done.returncode, 0, done.stderr[-2000:])
         self.assertEqual(outputs_of(json.loads(done.stdout)), outputs_of(json.loads(LESSON.read_text())))

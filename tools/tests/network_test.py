@@ -1,11 +1,14 @@
 """Tests of `network`: its limits are those of the program, and what it reads is what the program reads."""
 import itertools
+import pathlib
+import tempfile
 import unittest
 
 from support import asked_program
 
 from bgpnet import network
 from bgpnet.network import Prefix, distances, read_path
+from bgpnet.program import Program, Refused
 
 
 def text_of(routers, links, more=""):
@@ -67,6 +70,22 @@ class Read(unittest.TestCase):
         peers = {1: [2, 3], 2: [1, 4], 3: [1], 4: [2], 5: []}
         self.assertEqual(list(distances(peers, 1).items()), [(1, 0), (2, 1), (3, 1), (4, 2)])
         self.assertEqual(distances(peers, 1, [frozenset((2, 1))]), {1: 0, 3: 1})
+
+
+class Said(unittest.TestCase):
+    def test_lines_besides_that_of_a_refusal(self):
+        """What the program says of other things, above the refusal or where it takes the text, is passed over."""
+        with tempfile.TemporaryDirectory() as folder:
+            path = pathlib.Path(folder, "program")
+            path.write_text("#!/bin/sh\necho 'bgpnet: rank 2 10.2.0.0/16: for nothing' >&2\n"
+                            "[ $1 = safe ] && { echo prefix 10.1.0.0/16 safe; exit; }\n"
+                            "printf 'bgpnet: line 3: N1: unknown\nbgpnet: the nearest is link\n' >&2\necho refused 3 N1\nexit 1\n")
+            path.chmod(0o755)
+            with self.assertRaises(Refused) as raised:
+                Program(str(path)).answer(["check"], "", "net")
+            self.assertEqual((raised.exception.line, raised.exception.code, str(raised.exception)),
+                             (3, "N1", "net:3: N1: unknown; the nearest is link"))
+            self.assertEqual(Program(str(path)).answer(["safe"], "", "net"), ["prefix 10.1.0.0/16 safe"])
 
 
 if __name__ == "__main__":

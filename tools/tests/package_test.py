@@ -12,26 +12,39 @@ from support import TOP, asked_program, program_path
 
 import bgpnet
 
-# What pip takes to install: Debian has it in python3-venv.
-PYTHON = next((path for path in (sys.executable, "/usr/bin/python3") if os.access(path, os.X_OK) and not subprocess.run(
-    [path, "-c", "import ensurepip, venv"], capture_output=True).returncode), None)
+# Where a Python has the pip that it puts into new environments: Debian has it in python3-venv.
+BUNDLED = """import ensurepip, pathlib, sysconfig, venv
+folders = [pathlib.Path(ensurepip.__file__).parent / "_bundled", pathlib.Path(sysconfig.get_config_var("WHEEL_PKG_DIR") or "/")]
+print(next(wheel for folder in folders for wheel in folder.glob("pip-*.whl")))"""
 COMMANDS = re.compile(r'^bgpnet-(\w+) = "bgpnet\.commands\.(\w+):main"$', re.M)
+
+
+def with_pip():
+    """A Python that makes environments, and its pip, or nothing."""
+    for path in (sys.executable, "/usr/bin/python3"):
+        if os.access(path, os.X_OK):
+            done = subprocess.run([path, "-c", BUNDLED], capture_output=True, text=True)
+            if done.returncode == 0:
+                return path, done.stdout.strip()
+    return None
 
 
 class Installed(unittest.TestCase):
     @classmethod
     def setUpClass(cls):
-        if PYTHON is None:
+        found = with_pip()
+        if found is None:
             raise unittest.SkipTest("no Python here has venv and ensurepip, so nothing is installed")
+        python, pip = found
         cls.folder = tempfile.TemporaryDirectory()
         cls.addClassCleanup(cls.folder.cleanup)
         cls.place, source = pathlib.Path(cls.folder.name, "venv"), pathlib.Path(cls.folder.name, "source")
         shutil.copytree(TOP / "tools/bgpnet", source / "tools/bgpnet", ignore=shutil.ignore_patterns("__pycache__"))
         for name in ("pyproject.toml", "tools/README.md", "tools/build_backend.py"):
             shutil.copy(TOP / name, source / name)
-        for words in ([PYTHON, "-m", "venv", cls.place],
-                      [cls.place / "bin/pip", "install", "--no-index", "--no-build-isolation", source]):
-            done = subprocess.run(words, capture_output=True, text=True)
+        for words in ([python, "-m", "venv", "--without-pip", cls.place],
+                      [cls.place / "bin/python", "-m", "pip", "install", "--no-index", "--no-build-isolation", source]):
+            done = subprocess.run(words, capture_output=True, text=True, env=dict(os.environ, PYTHONPATH=pip))
             assert done.returncode == 0, done.stdout + done.stderr
 
     def run_one(self, *words, **variables):

@@ -10,7 +10,7 @@ import tempfile
 import unittest
 import unittest.mock
 
-from support import TOP, program_path, run
+from support import TOP, load, pictures_missing, program_path, run
 
 import bgpnet
 
@@ -25,9 +25,10 @@ class Packed(unittest.TestCase):
         folder = tempfile.TemporaryDirectory()
         cls.addClassCleanup(folder.cleanup)
         cls.folder = pathlib.Path(folder.name)
+        package = load("package")  # one module: it asks each tool for its help once
         for name in ("one", "two"):
             with unittest.mock.patch.dict(os.environ, SOURCE_DATE_EPOCH=TIME):
-                status, out, error = run("package", cls.folder / name)
+                status, out, error = run("package", cls.folder / name, module=package)
             assert (status, error) == (0, ""), error
         cls.deb, cls.tar = cls.folder / "one" / DEB, cls.folder / "one" / TAR
         subprocess.run(["dpkg-deb", "-x", cls.deb, cls.folder / "root"], check=True)
@@ -55,6 +56,7 @@ class Packed(unittest.TestCase):
         example = share / "doc/bgpnet/examples/disagree.txt"
         binary = self.folder / "root/usr/bin"
         where = {"BGPNET": str(binary / "bgpnet"), "PYTHONPATH": str(self.folder / "root/usr/lib/python3/dist-packages")}
+        self.assertEqual(pictures_missing(share / "doc/bgpnet"), [])
         codes = []
         for path in (binary / "bgpnet", program_path):
             subprocess.run(["objcopy", "-O", "binary", "--only-section=.text", path, self.folder / "code"], check=True)

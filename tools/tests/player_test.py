@@ -58,11 +58,11 @@ class Traced:
         whole = len(self.events)
         return sorted({0, whole, *(whole * part // most for part in range(most))})
 
-    def why(self, at):
-        """What `why` says of each router behind an event, but for incarnations, outboxes and what is on its way."""
-        return [[" ".join(line.split()[:3]) if line.startswith("peer ") else line
-                 for line in self.program.answer(["why", str(router)], self.cut(at), "a run")]
-                for router in self.network.routers]
+    def why(self, at, router):
+        """What `why` says of a router behind an event, but for incarnations, outboxes, timers and what is on its way."""
+        return [" ".join(line.split()[:3]) if line.startswith("peer ") else line
+                for line in self.program.answer(["why", str(router)], self.cut(at), "a run")
+                if not line.startswith("  timers ")]
 
     def kept(self, at):
         return routes_of(self.program.answer(["play"], self.cut(at), "a run"))
@@ -155,7 +155,7 @@ class Known(unittest.TestCase):
             self.assertEqual(done.stderr, "")
             for at, said in zip(numbers, json.loads(done.stdout)):
                 with self.subTest(path.name, event=at):
-                    self.assertEqual(said, traced.why(at))
+                    self.assertEqual(said, [traced.why(at, router) for router in traced.network.routers])
 
 
 # In the page: steps and clicks by buttons and keys, and what it says behind them.
@@ -203,8 +203,7 @@ class Browsed(unittest.TestCase):
             for said in walked["said"]:
                 with self.subTest(path.name, event=said["at"]):
                     at = said["at"]
-                    router = traced.network.routers.index(int(said["router"]))
-                    self.assertEqual(said["why"].split("\n"), traced.why(at)[router][1:])
+                    self.assertEqual(said["why"].split("\n"), traced.why(at, int(said["router"]))[1:])
                     kept = traced.kept(at)
                     self.assertEqual({int(one): path for one, path in said["kept"].items()},
                                      {one: "-".join(map(str, kept[one, prefix])) or "none" for one in traced.network.routers})

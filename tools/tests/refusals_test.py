@@ -1,8 +1,10 @@
 """Tests that one run tells all that is refused of a set of configurations, and nothing that only hangs on it."""
 import unittest
+import unittest.mock
 
 from support import load  # noqa: F401, for it sets the path
 from bird_cases import ONE, OWN, TWO, bird, frr, line, pair, shape
+from inside_cases import MAP, Net
 
 from bgpnet.configs.files import read_set
 from bgpnet.configs.ranks import Ranks, network_lines
@@ -64,20 +66,72 @@ class Told(unittest.TestCase):
             ("r1.conf:10", "the password is not that"), ("r3.conf:3", "'frobnicate'"), ("r3.conf:9", "'redistribute"),
             ("r5.conf:1", "the router id 10.255.1.1 is that of r1.conf:1"), ("r5.conf:13", "its address is one of r2, AS 64602")])
 
-    def test_all_of_the_ways(self):
-        """Where the files and the sessions are taken: of each line the first."""
+    def ways_refused(self):
+        """A set of which several ways are refused."""
         lengths = ("filter l { if bgp_path.first = 64602 then { bgp_path.prepend(1); bgp_path.prepend(1); } "
                    "else if bgp_path.first = 64604 then bgp_path.prepend(1); accept; }")
         into = {f"e_in{peer}": "filter l" for peer in (2, 3, 4)}
         files = shape(DIAMOND, {5: lengths, 1: "filter f { preference = 250; accept; }"}, {1: OWN},
                       {**into, "e_opt2": "path metric off;", "e_opt3": "path metric off;", "a_in2": "filter f"})
         files["r2.conf"] = bird(2, (1, 5), own=f"route {TWO} blackhole;")
-        files["r6.conf"] = frr(6, (1,), f"route-map OUT permit 10 / set as-path exclude 64601 // network {TWO} / "
+        files["r6.conf"] = frr(6, (1,), "route-map OUT permit 10 / set as-path exclude 64601 // "
                                         "neighbor 10.255.1.1 route-map OUT out")
         files["r1.conf"] += bird(1, (6,), in6="filter f").split("protocol device { }\n")[1]
-        self.assert_told(files, [("r6.conf:10", f"{TWO} has another origin")])
-        files["r6.conf"] = files["r6.conf"].replace(f"network {TWO}\n", "")
-        self.assert_told(files, [("r1.conf:32", "64601-64606-64601 better than its own route"),
-                                 ("r5.conf:13", "no order"), ("r6.conf:4", "passes 64601 twice")])
+        return files
+
+    OF_WAYS = [("r1.conf:32", "64601-64606-64601 better than its own route"), ("r5.conf:13", "no order"),
+               ("r6.conf:4", "passes 64601 twice")]
+
+    def test_all_of_the_ways(self):
+        """Of each line the first; and of a prefix that has two origins just that."""
+        files = self.ways_refused()
+        self.assert_told(files, self.OF_WAYS)
+        files["r6.conf"] = files["r6.conf"].replace("exit\n", f" network {TWO}\nexit\n")
+        self.assert_told(files, self.OF_WAYS[:2] + [("r6.conf:11", f"{TWO} has another origin")])
         files = pair(own1=f"route {ONE} blackhole {{ unset(bgp_med); }}; / route {TWO} blackhole {{ unset(bgp_med); }};")
         self.assert_told(files, [("r1.conf:5", "BIRD ends by a fault"), ("r1.conf:6", "BIRD ends by a fault")])
+
+    def test_ways_beside_other_refusals(self):
+        """Ways are refused in the same run as lines and sessions, where they do not hang on those."""
+        files = self.ways_refused()
+        files["r7.conf"] = frr(7, (8,), "frobnicate") + "ip prefix-list P permit 10.0.0.0/99\n"
+        files["r8.conf"] = frr(8, (7, 9), " // neighbor 10.255.9.1 password one")
+        files["r9.conf"] = frr(9, (8,), " // neighbor 10.255.8.1 password two")
+        rest = [("r7.conf:3", "'frobnicate'"), ("r7.conf:10", "prefix"), ("r8.conf:9", "the password is not that")]
+        self.assert_told(files, self.OF_WAYS + rest)
+        with unittest.mock.patch("bgpnet.configs.ways.MOST_BESIDE", 2):
+            self.assert_told(files, rest)
+        # of a router whose lines are refused nothing is said: not of r5, nor of the ways over r6
+        files["r5.conf"] += "frobnicate 5;\n"
+        files["r6.conf"] = files["r6.conf"].replace("frr defaults", "frobnicate\nfrr defaults")
+        self.assert_told(files, [("r5.conf:30", "'frobnicate 5'"), ("r6.conf:2", "'frobnicate'"), *rest])
+
+    def test_ways_over_sessions_that_are_refused(self):
+        """Of a session that is refused, or whose ends are found by what is left, nothing is said; else it is."""
+        files = {"r1.conf": frr(1, (2, 3), f" // network {ONE} / neighbor 10.255.2.1 weight 40000"),
+                 "r2.conf": frr(2, (1,), "route-map OUT permit 10 / set as-path exclude 64601 // "
+                                         "neighbor 10.255.1.1 route-map OUT out"),
+                 "r3.conf": frr(3, (1,), " // frobnicate")}
+        way, line = ("r1.conf:7", "64601-64602-64601 better than its own route"), ("r3.conf:8", "'frobnicate'")
+        self.assert_told(files, [way, line])
+        secret = files["r1.conf"].replace("exit\n", " neighbor 10.255.2.1 password a\nexit\n")
+        self.assert_told(dict(files, **{"r1.conf": secret}), [("r1.conf:11", "the password"), line])
+        guessed = files["r1.conf"].replace("10.255.2.1", "10.9.2.1").replace("remote-as 64602", "remote-as external")
+        self.assert_told(dict(files, **{"r1.conf": guessed, "r3.conf": frr(3, (1,))}), [way])
+        self.assert_told(dict(files, **{"r1.conf": guessed}), [line])
+
+    def test_ways_where_an_as_has_several_routers(self):
+        """An AS of which a file is refused is left out; circles and ties, which hang on all ways, are told later."""
+        files = Net("a1 b1 x2 y3 z4", "a-b, a-x, x-y, x-z, y-z", top={"x": MAP + "as-path exclude 65004"},
+                    family={"x": "neighbor {z} route-map M out", "z": "neighbor {x} weight 40000"}).files()
+        way = "z.conf:21", "z-x-y-z better than its own route"
+        self.assert_told(files, [way])
+        self.assert_told(dict(files, **{"b.conf": files["b.conf"] + "frobnicate\n"}), [("b.conf:26", "'frobnicate'"), way])
+        self.assert_told(dict(files, **{"y.conf": files["y.conf"] + "frobnicate\n"}), [("y.conf:26", "'frobnicate'")])
+        tied = {name: text.replace(" bgp bestpath compare-routerid\n", "") for name, text in
+                Net("a1 b1 x2 y3 o4 w5", "a-b, a-x, a-y, x-o, y-o, o-w", networks={"o": (ONE,)}).files().items()}
+        self.assert_told(tied, [("a.conf:21", "tie: a-x-o, a-y-o")])
+        self.assert_told(dict(tied, **{"w.conf": tied["w.conf"] + "frobnicate\n"}), [("w.conf:21", "'frobnicate'")])
+        # of which AS a file is that has no line `router bgp` is not known
+        self.assert_told(dict(files, **{"w.conf": "frobnicate\n"}), [("w.conf:1", "'frobnicate'")])
+

@@ -965,6 +965,15 @@ class Printed(unittest.TestCase):
         self.assertEqual(error, "streams: -: stream 1: 30 octets are missing behind octet 30\n"
                                 f"streams: -: stream 1: it ends at its first hole, {len(speech(1, 2)) - 60} octets stand behind it\n")
 
+    def test_capabilities_of_any_length(self):
+        """One that is too short for what it says is told by its octets."""
+        for code in range(256):
+            for size in range(12):
+                for octet in (0, 1, 255):
+                    self.assertTrue(names.capability_text(code, bytes([octet]) * size))
+        self.assertEqual([names.capability_text(code, b"") for code in (1, 2, 75, 200)],
+                         ["multiprotocol of 0 octets", "route-refresh", "software version of 0 octets", "capability 200"])
+
     def test_capabilities_and_notifications_by_name(self):
         capabilities = (bytes([1, 4, 0, 1, 0, 1]) + bytes([2, 0]) + bytes([65, 4]) + struct.pack(">I", 70000)
                         + bytes([64, 6, 0, 120, 0, 1, 1, 0x80]) + bytes([6, 0]) + bytes([69, 4, 0, 1, 1, 3])

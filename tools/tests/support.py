@@ -3,6 +3,7 @@ import functools
 import io
 import os
 import pathlib
+import re
 import subprocess
 import sys
 import types
@@ -11,8 +12,9 @@ import unittest.mock
 TOOLS = pathlib.Path(__file__).resolve().parent.parent
 TOP = TOOLS.parent
 sys.path.insert(0, str(TOOLS))
-# Tools that are started as programs run in the Python of the tests.
+# Tools that are started as programs run in the Python of the tests, and compile a module once.
 os.environ["PATH"] = os.pathsep.join([os.path.dirname(sys.executable), os.environ.get("PATH", os.defpath)])
+os.environ.pop("PYTHONDONTWRITEBYTECODE", None)
 
 from bgpnet.program import Program, found_program, run_tool  # noqa: E402, for it stands beside the tools
 
@@ -35,13 +37,19 @@ def load(name):
     return module
 
 
+def pictures_missing(folder):
+    """The pictures that pages below a folder show and that are not there."""
+    return [(page.name, name) for page in pathlib.Path(folder).rglob("*.md")
+            for name in re.findall(r"!\[[^]]*\]\(([^)]*)\)", page.read_text()) if not (page.parent / name).is_file()]
+
+
 def asked_program():
     return Program(program_path)
 
 
-def run(tool, *words, given=b""):
-    """The status of a tool, and what it writes on the standard output and on the standard error. It is loaded anew and
-    runs in this process, which takes less time than to start another."""
+def run(tool, *words, given=b"", module=None):
+    """The status of a tool, and what it writes on the standard output and on the standard error. It is loaded anew, where
+    no module of it is given, and runs in this process, which takes less time than to start another."""
     streams = [io.TextIOWrapper(io.BytesIO(octets), encoding="utf-8", errors=errors, write_through=True)
                for octets, errors in ((given, "strict"), (b"", "strict"), (b"", "backslashreplace"))]
     here = os.getcwd()
@@ -49,7 +57,7 @@ def run(tool, *words, given=b""):
     try:
         with unittest.mock.patch.dict(os.environ, BGPNET=program_path), unittest.mock.patch.multiple(
                 sys, argv=[str(TOOLS / tool), *map(str, words)], **dict(zip(("stdin", "stdout", "stderr"), streams))):
-            run_tool(load(tool).main)
+            run_tool((module or load(tool)).main)
     except SystemExit as ended:
         status = ended.code
     finally:

@@ -333,6 +333,7 @@ class Refusals(unittest.TestCase):
         self.refused("dot", b"graph {\n a -- b % c\n}", "-:2: '%' can't be read")
         self.refused("dot", b"", "-:1: no whole graph")
         self.refused("graphml", b"<graphml>\n<graph>\n</graphml>", "-:3: mismatched tag: line 3, column 2")
+        self.refused("graphml", b"<graphml><graph><node/></graph></graphml>", "-: a node without an id")
         self.refused("graphml", b"<graphml><graph><node id='a'/><edge source='a' target='b'/></graph></graphml>",
                      "-: an edge of a node b that is not there")
 

@@ -100,7 +100,11 @@ def compare_set(trees, program, texts, folder, kept=None):
 def fail_set(trees, program, texts, folder):
     """The verdict of a set of which each link fails, in a word, what is to be said, and how much was compared."""
     routers, running = lab_of(trees, texts, folder)
-    found = Failures(program, Ranks(routers), running)
+    return run_failures(Failures(program, Ranks(routers), running), running)
+
+
+def run_failures(found, running):
+    """The verdict of failures that real routers go through, what is to be said, and how much was compared."""
     try:
         running.start()
         found.run()
@@ -114,27 +118,7 @@ def fail_igp(trees, texts, folder):
     routers, running = lab_of(trees, texts, folder)
     if not isinstance(routers, AsSet) or running.metrics is not None:
         raise Refusal("no IGP runs in this set: each AS has one router, or a file has its edges")
-    found = IgpFailures(texts, routers, running)
-    try:
-        running.start()
-        found.run()
-    finally:
-        running.stop()
-    return "wrong" if found.wrong else "agrees", found.wrong + found.said, found
-
-
-def inside_failing_igp(asked, texts):
-    with tempfile.TemporaryDirectory() as folder:
-        verdict, said, found = fail_igp(trees_of(asked), texts, folder)
-    print(f"{verdict} {len(texts)} routers {len(found.links)} links {found.states} states")
-    return verdict, said
-
-
-def inside_failing(asked, program, texts):
-    with tempfile.TemporaryDirectory() as folder:
-        verdict, said, found = fail_set(trees_of(asked), program, texts, folder)
-    print(f"{verdict} {len(texts)} routers {len(found.failures)} links {found.states} states")
-    return verdict, said
+    return run_failures(IgpFailures(texts, routers, running), running)
 
 
 def texts_of(asked):
@@ -151,15 +135,16 @@ def texts_of(asked):
 
 def inside(asked, program):
     """Runs one set, in a namespace of its own."""
-    texts = texts_of(asked)
-    if asked.fail_each_link:
-        verdict, said = inside_failing(asked, program, texts)
-    elif asked.fail_each_igp_link:
-        verdict, said = inside_failing_igp(asked, texts)
-    else:
-        with tempfile.TemporaryDirectory() as folder:
-            verdict, said, routes = compare_set(trees_of(asked), program, texts, folder, asked.keep)
-        print(f"{verdict} {len(texts)} routers {routes} routes")
+    texts, trees = texts_of(asked), trees_of(asked)
+    with tempfile.TemporaryDirectory() as folder:
+        if asked.fail_each_link or asked.fail_each_igp_link:
+            verdict, said, found = fail_set(trees, program, texts, folder) if asked.fail_each_link else \
+                fail_igp(trees, texts, folder)
+            counted = f"{len(found.links)} links {found.states} states"
+        else:
+            verdict, said, routes = compare_set(trees, program, texts, folder, asked.keep)
+            counted = f"{routes} routes"
+    print(f"{verdict} {len(texts)} routers {counted}")
     for line in said:
         print(f"  {line}")
     return 1 if verdict == "wrong" else 0

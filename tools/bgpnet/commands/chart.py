@@ -21,14 +21,7 @@ such a place near. With --slide it has as many columns as make its letters 12 po
 by 7.5 inches, and what has no room there is refused, with words that make room."""
 from bgpnet.charts import LEAST_POINTS, MOST_COLUMNS, MOST_EVENTS, POINTS, Shown, drawn_chart
 from bgpnet.network import Prefix, read_network
-from bgpnet.program import Program, Refusal, Words, count, read_text, tool, write_text
-
-
-def prefix_word(word):
-    try:
-        return Prefix.read(word)
-    except ValueError:
-        raise Refusal(f"'{word}' is no prefix") from None
+from bgpnet.program import Program, Words, count, read_text, tool, write_text
 
 
 @tool
@@ -49,11 +42,11 @@ def main():
     words.add_argument("--points", type=count(LEAST_POINTS, POINTS), metavar="N", default=POINTS,
                        help=f"how high letters are on a slide, {LEAST_POINTS} to {POINTS} ({POINTS})")
     asked = words.parse_args()
-    asked.prefix = prefix_word(asked.prefix) if asked.prefix else None
+    prefix = Prefix.named(asked.prefix) if asked.prefix else None
     program = Program(asked.program)
     text = read_text(asked.schedule)
     network, _, _ = read_network(program, text, asked.schedule)
-    shown = Shown(asked.first, asked.last, asked.first_line, asked.last_line, asked.updates, asked.prefix, asked.columns,
+    shown = Shown(asked.first, asked.last, asked.first_line, asked.last_line, asked.updates, prefix, asked.columns,
                   asked.slide, asked.points)
     write_text(drawn_chart(program, network, text, asked.schedule, shown))
     return 0

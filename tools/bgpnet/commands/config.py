@@ -25,27 +25,37 @@ import sys
 from bgpnet.configs.files import read_set
 from bgpnet.configs.igp import Edges
 from bgpnet.configs.outside import Outside
+from bgpnet.configs.places import Reasons
 from bgpnet.configs.ranks import Ranks, network_lines, schedule_lines
 from bgpnet.configs.syntax import number_of, prefix_of
 from bgpnet.configs.telling import Change, Names, all_tie_ends, explain, read_routes, verify
-from bgpnet.network import GREATEST_ASN, MOST_PATHS, Prefix
+from bgpnet.network import GREATEST_ASN, MOST_PATHS, Prefix, lines_text
 from bgpnet.program import Program, Refusal, Words, count, read_text, tool
 
 
 def read_files(names, asked, known=()):
     """The routers of files, and their sessions, with what else is asked for: those of ASes outside, and the IGP. Some
-    files are said to be of BIRD. Where an AS has several routers those of some names have numbers, too."""
+    files are said to be of BIRD. Where an AS has several routers those of some names have numbers, too. Ends are
+    verified without a look at all ways."""
     doubles = {name for name in names if names.count(name) > 1}
     if doubles:
         raise Refusal(f"{min(doubles)}: the file stands twice")
     edges = Edges(read_text(asked.igp), asked.igp) if asked.igp else None
     return read_set({name: read_text(name) for name in names}, asked.bird,
-                    [Outside(asn_word(asn), name) for asn, name in asked.external], edges, asked.igp_down, known)
+                    [Outside(asn_word(asn), name) for asn, name in asked.external], edges, asked.igp_down, known,
+                    () if asked.verify is not None else chosen_prefixes(asked))
+
+
+def chosen_prefixes(asked):
+    """The prefixes whose paths are asked for, or None for all."""
+    return [read_prefix(asked.explain[1])] if asked.explain else asked.prefix or None
 
 
 def read_both(names, others, asked):
     """Two sets of files; where an AS of one of them has several routers a router has one number in both."""
-    old, new = read_files(names, asked), read_files(others, asked)
+    reasons = Reasons(files=names)
+    old, new = (reasons.attempt(read_files, files, asked) for files in (names, others))
+    reasons.refuse()
     if old.hosts() == new.hosts():
         return old, new
     if not old.hosts():
@@ -87,7 +97,7 @@ def asked_words():
     words.add_argument("--network", action="store_true", help="write no schedule, as for `bgpnet run` and tools/settle")
     words.add_argument("--prefix", nargs="+", metavar="P", default=[], help="take some prefixes alone")
     words.add_argument("--best", type=count(1, MOST_PATHS), metavar="N",
-                       help=f"leave out what can't last where a router has more than N paths, then all but the best N")
+                       help="leave out what can't last where a router has more than N paths, then all but the best N")
     words.add_argument("--explain", nargs=2, metavar=("ROUTER", "PREFIX"),
                        help="the paths of a router, and by what line")
     words.add_argument("--verify", metavar="ROUTES",
@@ -133,7 +143,7 @@ def main():
         last = f"unstable: {number} of {len(judged)}" if number else "stable"
         print("\n".join([*(line for _, line in judged), last]))
         return 1 if number else 0
-    chosen = [read_prefix(asked.explain[1])] if asked.explain else asked.prefix or None
+    chosen = chosen_prefixes(asked)
     ranks = Ranks(routers, chosen, bool(asked.explain), bool(asked.explain or asked.ties))
     if asked.explain:
         print("\n".join(explain(ranks, asked.explain[0], chosen[0], Names(asked.files))))
@@ -145,5 +155,5 @@ def main():
     if asked.ties:
         print("\n".join(all_tie_ends(Program(asked.program), ranks, asked.best)))
         return 0
-    print("".join(line + "\n" for line in (lines if asked.network else lines + schedule_lines(lines))), end="")
+    print(lines_text(lines if asked.network else lines + schedule_lines(lines)), end="")
     return 0

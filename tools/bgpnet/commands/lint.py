@@ -16,7 +16,7 @@ where nothing is named the routes may still be others than was meant: tools/sett
 import sys
 
 from bgpnet.live import listed_paths, warnings
-from bgpnet.network import Prefix, parts_of, read_address, read_network, read_number, words_of
+from bgpnet.network import Prefix, lines_text, parts_of, read_address, read_network, read_number, words_of
 from bgpnet.program import Program, Refusal, Words, read_text, tool
 from bgpnet.tracing import Moment, events_of, orders_of, rest_bound
 
@@ -192,5 +192,5 @@ def main():
             print(f"lint: {name}: {why.strerror}", file=sys.stderr)
         else:
             is_found |= bool(found)
-            print("".join(line + "\n" for line in found), end="")
+            print(lines_text(found), end="")
     return 1 if is_refused else FOUND if is_found else 0

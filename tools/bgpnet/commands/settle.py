@@ -27,6 +27,7 @@ import json
 import sys
 
 from bgpnet import jobs
+from bgpnet.answers import routes_json
 from bgpnet.live import warnings
 from bgpnet.network import path_text, read_link, read_network
 from bgpnet.program import Program, Refusal, Words, count, read_text, tool
@@ -91,8 +92,7 @@ def orders_object(ends):
     return [{
         "end": said, "count": len(orders), "orders": [word for word, _, _ in orders],
         "counts": [{"order": word, **counts} for word, _, counts in orders if counts],
-        "routes": [{"router": router, "prefix": str(prefix), "path": path_text(path)}
-                   for (router, prefix), path in routes],
+        "routes": routes_json(dict(routes)),
         "again": [{"order": word, "first": again.first, "second": again.second, "events": again.events}
                   for word, again, _ in orders if again],
     } for (said, routes), orders in ends.items()]

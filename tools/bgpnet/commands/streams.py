@@ -252,7 +252,7 @@ def main():
         words.error("--parts needs the number of a stream")
     if not asked.decode and (asked.timeline or asked.prefix or not asked.keepalives):
         words.error("--timeline, --no-keepalive and --prefix go with --decode")
-    asked.choice = Choice(asked.keepalives, prefix_word(asked.prefix) if asked.prefix else None)
+    asked.choice = Choice(asked.keepalives, Prefix.named(asked.prefix) if asked.prefix else None)
     program = Program(asked.program) if asked.decode else None
     losses = []
     connections = read_capture(asked.file, asked.port, losses)
@@ -318,13 +318,6 @@ def identified_in(connection, stream):
         return [family_text(family, subsequent) for family in FAMILIES for subsequent in SUBSEQUENT]
     other = next(other for other in connection.streams.values() if other is not stream)
     return path_identifiers(stream.octets, other.octets)
-
-
-def prefix_word(word):
-    try:
-        return Prefix.read(word)
-    except ValueError:
-        raise Refusal(f"'{word}' is no prefix") from None
 
 
 def print_connection(connection, numbers, program, asked):

@@ -202,6 +202,8 @@ def read_graphml(text, name):
     names, labels, edges = {}, {}, []
     for tag, element in elements:
         if tag == "node":
+            if element.get("id") is None:
+                raise Refusal(f"{name}: a node without an id")
             names[element.get("id")] = 0
             for data in element:
                 if data.get("key") in keys and data.text:

@@ -28,6 +28,7 @@ import json
 import sys
 
 from bgpnet import jobs
+from bgpnet.answers import routes_json
 from bgpnet.becoming import Change, check_alike
 from bgpnet.failures import Failure, Player, alike_key, seen_in
 from bgpnet.leftover import ends_left, is_safe, start_in
@@ -108,8 +109,7 @@ def state_object(state, seen):
         "again": state.again and [state.again.first, state.again.second, state.again.events],
         "other_orders": state.others and {
             "played": state.others.played, "restless": state.others.restless,
-            "ends": [{"seeds": seeds, "routes": [{"router": router, "prefix": str(prefix), "path": path_text(path)}
-                                                 for (router, prefix), path in routes]}
+            "ends": [{"seeds": seeds, "routes": routes_json(dict(routes))}
                      for routes, seeds in state.others.ends.items()]},
         "prefixes": [{
             "prefix": str(prefix), "origin": one.origin, "updates": one.updates,
@@ -309,16 +309,16 @@ def becomes(program, network, scheduled, asked):
     player = Player(program, network, scheduled, asked.orders)
     player.before = player.states([])[0]
     before = Outcome(player, asked.json).see("before", player.before, player.before, BEFORE)
-    if player.before.stage.rest is None:
-        print("it does not rest in the order of `rounds` before it becomes another, so nothing is compared")
-        return 3
-    changes = [Change(program, other, prefix, player.before.routes, asked.orders) for prefix in other.origins]
-    status = 3 if any(change.lost or change.restless for change in changes) else \
+    rests = player.before.stage.rest is not None
+    changes = [Change(program, other, prefix, player.before.routes, asked.orders) for prefix in other.origins if rests]
+    status = 3 if not rests or any(change.lost or change.restless for change in changes) else \
         5 if any(len(change.ends) > 1 for change in changes) else 0
     if asked.json:
         print(json.dumps({"network": asked.network, "becomes": asked.becomes, "status": status,
                           "before": state_object(player.before, before),
                           "prefixes": [change.object() for change in changes]}, indent=1))
+    elif not rests:
+        print("it does not rest in the order of `rounds` before it becomes another, so nothing is compared")
     else:
         print(f"becomes {asked.becomes}")
         for change in changes:

@@ -2,14 +2,13 @@
 IGP in a namespace of its own, its interfaces joined as their subnets say.
 
 Where a file gives the edges of the IGP, no IGP runs: each router gets routes with the metrics of these edges by hand."""
-import os
 import pathlib
 import subprocess
 import time
 
 from bgpnet.configs import frr
-from bgpnet.configs.lab import LIBRARIES, LOOK, Lab
-from bgpnet.configs.ribs import network_of
+from bgpnet.configs.lab import LOOK, Lab
+from bgpnet.configs.ribs import network_of, shortest_ways
 from bgpnet.configs.sessions import dotted
 
 # The group of FRR's terminals, which its programs look for by name.
@@ -92,10 +91,9 @@ class AsLab(Lab):
     def __init__(self, tree, routers, texts, folder, metrics=None):
         super().__init__({"FRR": tree}, routers, texts, folder)
         self.real = {number: router for number, router in routers.routers.items() if number in texts}
-        self.metrics, self.tree, self.wires = metrics, tree, None
+        self.metrics = metrics
         self.daemons = {number: AsDaemon(tree, routers, number, texts[number], self.folder / str(number))
                         for number in texts}
-        self.others = []
 
     # ---- namespaces
 
@@ -116,20 +114,9 @@ class AsLab(Lab):
             (daemon.folder / "conf").write_text(daemon.copy(True), encoding="latin-1")
             self.processes[number] = self.run_one(number, daemon.words(None), "log")
 
-    def run_one(self, number, words, log):
-        environment = dict(os.environ, LD_LIBRARY_PATH=":".join(f"{self.tree}/{one}" for one in LIBRARIES))
-        with open(self.daemons[number].folder / log, "w") as out:
-            return subprocess.Popen(self.inside(number, words), env=environment, stdout=out, stderr=subprocess.STDOUT,
-                                    stdin=subprocess.DEVNULL)
-
     def make_homes(self):
         """A namespace for each router, and one with a bridge for each subnet, to which its interfaces are joined."""
-        own = os.readlink("/proc/self/ns/net")
-        for number in [0, *self.real]:
-            self.homes[number] = subprocess.Popen(["unshare", "-n", "sleep", "900"], stdin=subprocess.DEVNULL)
-        for home in self.homes.values():
-            while os.readlink(f"/proc/{home.pid}/ns/net") == own:
-                time.sleep(0.005)
+        self.make_spaces([0, *self.real])
         lines, wires, bridges = {number: ["link set lo up"] for number in self.real}, [], {}
         for number, router in self.real.items():
             for at, (name, interface) in enumerate(router.interfaces.items()):
@@ -155,17 +142,6 @@ class AsLab(Lab):
     @staticmethod
     def address_lines(interface, name):
         return [f"addr add {dotted(address)}/{length} dev {name}" for (address, length), _ in interface.addresses]
-
-    def stop(self):
-        for process in self.others:
-            process.terminate()
-        for process in self.others:
-            try:
-                process.wait(5)
-            except subprocess.TimeoutExpired:
-                process.kill()
-                process.wait()
-        super().stop()
 
     # ---- what the processes do
 
@@ -207,34 +183,29 @@ def routes_by_hand(routers, edges):
     """The routes that the edges of a file give the routers of a set: by router the addresses, each with the next hop and
     the metric."""
     costs = edges.by_number({routers.label(number): number for number in routers.routers})
-    on = {}
+    on, inside = {}, {}
+    for (one, other), cost in costs.items():
+        if routers.routers[one].asn == routers.routers[other].asn:
+            inside.setdefault(one, {})[other] = cost
     for number, router in routers.routers.items():
         for interface in router.interfaces.values():
             for (address, length), _ in interface.addresses:
                 on.setdefault((network_of(address, length), length), {})[number] = address
     found = {}
-    for start, router in routers.routers.items():
-        lengths, hops, left = {start: 0}, {}, {start}
-        while left:
-            at = min(left, key=lengths.get)
-            left.remove(at)
-            for (one, other), cost in costs.items():
-                if one == at and routers.routers[other].asn == router.asn and \
-                        lengths[at] + cost < lengths.get(other, lengths[at] + cost + 1):
-                    lengths[other] = lengths[at] + cost
-                    hops[other] = hops.get(at) or next(ends[other] for ends in on.values()
-                                                       if start in ends and other in ends)
-                    left.add(other)
+    for start in routers.routers:
+        ways = shortest_ways(start, inside)
+        hops = {number: next(ends[hop] for ends in on.values() if start in ends and hop in ends)
+                for number, (_, hop) in ways.items() if hop}
         own = found[start] = {}
         mine = [subnet for subnet, ends in on.items() if start in ends]
         for subnet, ends in on.items():
             for owner, address in ends.items() if subnet not in mine else ():
                 if owner in hops:
-                    ways = [(lengths[owner], owner)]
+                    over = [(ways[owner][0], owner)]
                 else:
-                    ways = [(lengths[near] + costs[near, owner], near) for near in ends
+                    over = [(ways[near][0] + costs[near, owner], near) for near in ends
                             if near in hops and (near, owner) in costs]
-                if ways:
-                    metric, near = min(ways)
+                if over:
+                    metric, near = min(over)
                     own[address] = hops[near], metric
     return found

@@ -3,6 +3,7 @@ route reflectors over an IGP, sessions between ASes at several places, and polic
 import heapq
 
 from bgpnet.configs.random_networks import Draw
+from bgpnet.network import lines_text
 
 PREFIXES = ("10.1.0.0/16", "10.2.0.0/16", "192.168.7.0/24", "172.16.0.0/12")
 # The name of the file with the edges of the IGP, in sets that have one.
@@ -360,7 +361,7 @@ class Text:
         lines += ["  " + line for line in networks + family + more_family] + [" exit-address-family", "exit"]
         lines += ["ip prefix-list ONE permit 10.1.0.0/16", "ip prefix-list TWO permit 10.2.0.0/16",
                   "ip prefix-list TWO permit 172.16.0.0/12"]
-        return "".join(line + "\n" for line in lines + [line for one in self.maps for line in one])
+        return lines_text(lines + [line for one in self.maps for line in one])
 
 
 def make(seed):

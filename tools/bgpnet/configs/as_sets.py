@@ -6,13 +6,13 @@ from bgpnet.configs.igp import Igp, is_on
 from bgpnet.configs.inside import is_direct
 from bgpnet.configs.origins import origins_of
 from bgpnet.configs.places import OF_ITS_OWN, Passed, Reasons, refusal
-from bgpnet.configs.sessions import End, Set, dotted
+from bgpnet.configs.sessions import End, Set
 from bgpnet.network import path_text
 from bgpnet.program import Refusal
 
 
-# How the name of an AS outside ends.
-OUTSIDE = re.compile(r" \(AS (\d+)\)$")
+# How the name of an AS outside ends, and how many digits of a number in a name count.
+OUTSIDE, MOST_DIGITS = re.compile(r" \(AS (\d+)\)$"), 1000
 
 
 def has_several(routers):
@@ -28,7 +28,8 @@ def file_name(router):
 
 def natural(name):
     """The key of a name, numbers in it by their value."""
-    return [(not part.isdigit(), int(part) if part.isdigit() else 0, part) for part in re.split(r"(\d+)", name)]
+    return [(not part.isdecimal(), int(part[:MOST_DIGITS]) if part.isdecimal() else 0, part)
+            for part in re.split(r"(\d+)", name)]
 
 
 class AsSet(Set):
@@ -56,6 +57,7 @@ class AsSet(Set):
             others = [one for one in routers[:at] + [one for one in routers[at + 1:] if one.language == "FRR"]
                       if one.asn == router.asn]
             if others and router.language != "FRR":
+                router.is_sound = False
                 reasons.add(refusal(router.place, f"AS {router.asn} is that of {others[0].place} too: iBGP of "
                                                   f"{router.language} is not read: its router is {OF_ITS_OWN}"))
         self.edges, self.down, self.igp, self.unreached = edges, down, None, set()
@@ -98,20 +100,10 @@ class AsSet(Set):
     def find_owners(self):
         """The router of each address: of an interface, a source, or a router id that a neighbor is named by; then by
         what is left."""
-        for router in self.routers.values():
-            for address, place in router.addresses.items():
-                if address >> 24 != 127:
-                    self.claim(address, router, place)
-            for neighbor in router.neighbors.values():
-                source = neighbor.line("source")
-                if source and isinstance(source.name, int):
-                    self.claim(source.name, router, source.place)
-            for neighbor in router.neighbors.values():
-                if neighbor.asn is None and router.is_whole:
-                    self.reasons.add(refusal(neighbor.place, f"neighbor {neighbor.key}: no line says its AS"))
-        ids = {router.router_id.name: router for router in self.routers.values() if router.router_id}
+        self.find_own()
+        ids = self.ids()
         for router, neighbor in self.named():
-            owner = self.owners.get(neighbor.address, (None, None))[0]
+            owner = self.owner(neighbor.address)
             if owner is None and neighbor.address in ids and self.may_be(router, neighbor, ids[neighbor.address]):
                 self.owners[neighbor.address] = ids[neighbor.address], ids[neighbor.address].router_id.place
             elif owner is not None and not self.may_be(router, neighbor, owner):
@@ -136,40 +128,27 @@ class AsSet(Set):
             if len(ends) == 2 and ends[0][0] is not ends[1][0] and ends[0][1].address != ends[1][1].address:
                 for (router, neighbor), (other, back) in (ends, ends[::-1]):
                     if self.may_be(router, neighbor, other) and self.may_be(other, back, router):
-                        self.owners[neighbor.address] = other, back.place
+                        self.guess(neighbor.address, other, back.place)
 
-    def find_external(self):
-        """The routers of neighbors whose address no line says: those of pairs; then the only one left that names the
-        router and is none of its other neighbors, as long as such are found."""
+    def find_unsaid(self):
         self.find_pairs()
-        left = [(router, neighbor) for router, neighbor in self.named() if neighbor.address not in self.owners]
-        is_new = True
-        while left and is_new:
-            is_new = False
-            for router, neighbor in list(left):
-                known = {self.owners[one.address][0].number for one in router.neighbors.values()
-                         if one.address in self.owners}
-                naming = [other for other in self.routers.values() if other is not router
-                          and other.number not in known and self.may_be(router, neighbor, other)
-                          and any(of is other and self.may_be(other, one, router)
-                                  and self.owners.get(one.address, (router,))[0] is router for of, one in self.named())]
-                if len(naming) == 1:
-                    self.owners[neighbor.address] = naming[0], neighbor.place
-                    left.remove((router, neighbor))
-                    is_new = True
+        super().find_unsaid()
 
-    def claim(self, address, router, place):
-        other = self.owners.setdefault(address, (router, place))
-        if other[0] is not router:
-            self.reasons.add(refusal(place, f"{dotted(address)} is an address of {self.label(router.number)} here, and "
-                                            f"of {self.label(other[0].number)} at {other[1]}"))
+    @staticmethod
+    def is_by_address(neighbor):
+        return True
+
+    def names_back(self, router, neighbor, other):
+        return self.may_be(router, neighbor, other) and any(
+            of is other and self.may_be(other, one, router) and self.owner(one.address) in (None, router)
+            for of, one in self.named())
 
     def peer_of(self, router, neighbor):
-        owner = self.owners.get(neighbor.address)
+        owner = self.owner(neighbor.address)
         if owner is not None:
-            if not self.may_be(router, neighbor, owner[0]):
+            if not self.may_be(router, neighbor, owner):
                 raise Passed  # it was refused by whose the address is
-            return owner[0]
+            return owner
         if not any(self.may_be(router, neighbor, other) for other in self.routers.values()
                    if other is not router and not other.is_origins):
             return None
@@ -181,7 +160,7 @@ class AsSet(Set):
     # ---- sessions
 
     def find_sessions(self):
-        if not self.reasons:
+        if not self.reasons or self.edges is None and not self.down:
             self.igp = Igp(self, self.edges, [self.link_of(word) for word in self.down])
             for router in self.routers.values():
                 self.check_imports(router)
@@ -208,7 +187,7 @@ class AsSet(Set):
     def join(self, one, other):
         """Makes a session of two ends that reach each other. One that lines shut is passed over for that; where links
         are down the others stay, without routes."""
-        for end, far in ((one, other), (other, one)) if self.igp is not None else ():
+        for end, far in ((one, other), (other, one)):
             found = end.router.no_session(end.neighbor, far) or self.no_way(end, far)
             if found:
                 end.router.warn(*found)
@@ -220,7 +199,9 @@ class AsSet(Set):
         super().join(one, other)
 
     def carries(self, asn, peer):
-        return super().carries(asn, peer) and frozenset((asn, peer)) not in self.unreached
+        ends = self.routers[asn], self.routers[peer]
+        are_known = all(router.reach is not None or router.language != "FRR" for router in ends)
+        return super().carries(asn, peer) and are_known and frozenset((asn, peer)) not in self.unreached
 
     @staticmethod
     def no_way(end, far):

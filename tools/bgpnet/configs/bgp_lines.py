@@ -1,5 +1,4 @@
 """The lines below `router bgp` of a configuration of FRR: the router's own, and those of its neighbors."""
-from bgpnet.configs import commands
 from bgpnet.configs.blocks import NOT_TAKEN, Blocks
 from bgpnet.configs.lists import mask_of
 from bgpnet.configs.places import Passed
@@ -125,11 +124,10 @@ class BgpLines(Blocks):
         """The AS number that a word of `remote-as` says, or `external`."""
         return self.router.asn if word == "internal" else word if word == "external" else int(word)
 
-    def do_unconnected(self, words, line):
-        self.say(words, "unconnected", True)
-
-    def do_client(self, words, line):
-        self.say(words, "client", True)
+    def do_flag(self, words, line):
+        """What a neighbor has or has not, by the word of its line."""
+        word = words[3] if words[0] == "no" else words[2]
+        self.say(words, "disable-connected-check" if word == "enforce-multihop" else word, True)
 
     def do_hop_self(self, words, line):
         """`next-hop-self` and `next-hop-self force` are two flags, of which `no` takes back its own."""
@@ -176,9 +174,6 @@ class BgpLines(Blocks):
         else:
             found.said[kind] = Line(value, self.place)
 
-    def do_shutdown_neighbor(self, words, line):
-        self.say(words, "shutdown", True)
-
     def do_source(self, words, line):
         address = address_of(words[-1])
         self.say(words, "source", address if address is not None else words[-1])
@@ -210,12 +205,6 @@ class BgpLines(Blocks):
     def do_duplicates(self, words, line):
         """Duplicates that are suppressed, as FRR does by itself."""
         self.router.suppresses = Line(words[0] != "no", self.place)
-
-    def do_passive(self, words, line):
-        self.say(words, "passive", True)
-
-    def do_loop_detection(self, words, line):
-        self.say(words, "loop detection", True)
 
     def do_weight(self, words, line):
         self.say(words, "weight", int(words[-1]) if words[0] != "no" else 0)

@@ -77,7 +77,7 @@ class Blocks:
     def judge_maps(self):
         """Refuses what is not read in route-maps that are used, and warns of it in others."""
         used, router = [], self.router
-        for neighbor in [*router.groups.values(), *router.neighbors.values()]:
+        for neighbor in router.all_neighbors():
             used += [line.name for (kind, _), line in neighbor.policies.items() if kind == "route-map"]
         used += [network.map_name for network in router.networks.values() if network.map_name]
         for name in used:
@@ -137,7 +137,7 @@ class Blocks:
                   "route-map": ("route-map", "config"), "config": ("config",)}[self.block]
         for block in blocks:
             try:
-                match = commands.TABLES[block].find(words)
+                match = commands.TABLES[block].find(tuple(words))
             except Unreadable as why:
                 self.refuse(f"'{' '.join(words)}': {why}")
             if match and (match.command.action != "foreign" or words[0] == match.words[0]):
@@ -147,7 +147,7 @@ class Blocks:
         return self.refuse(f"'{' '.join(words)}' is no line that is known here")
 
     def act(self, match, line):
-        action, words = match.command.action, match.words
+        action, words = match.command.action, list(match.words)
         if action in ("foreign", "addresses", "warned", "ignored") and self.block == "config":
             self.router.foreign.add(self.place.line)
         if match.command.why and self.block == "route-map" and action != "undone":

@@ -179,17 +179,17 @@ NEIGHBOR = """
 remote_as  PEER remote-as <(1-4294967295)|external|internal>
 group      PEER peer-group
 member     PEER peer-group WORD
-shutdown_neighbor [no] PEER shutdown
-shutdown_neighbor PEER shutdown message REST...
+flag       [no] PEER shutdown
+flag       PEER shutdown message REST...
 source     PEER update-source WORD
 source     no PEER update-source [WORD]
 password   PEER password WORD
 password   no PEER password [WORD]
-passive    [no] PEER passive
-loop_detection [no] PEER sender-as-path-loop-detection
+flag       [no] PEER passive
+flag       [no] PEER sender-as-path-loop-detection
 ignored    PEER description REST...
 ignored    [no] PEER <capability dynamic|capability extended-nexthop|strict-capability-match|override-capability>
-unconnected [no] PEER <disable-connected-check|enforce-multihop>
+flag       [no] PEER <disable-connected-check|enforce-multihop>
 ignored    [no] PEER <solo|enforce-first-as|extended-optional-parameters>
 kept       PEER graceful-restart
 ignored    no PEER graceful-restart
@@ -234,7 +234,7 @@ ignored    [no] PEER <soft-reconfiguration inbound|disable-addpath-rx>
 hop_self   [no] PEER next-hop-self [<force|all>]
 warned     PEER maximum-prefix (1-4294967295) [(1-100)] [force]
 warned     PEER maximum-prefix (1-4294967295) [(1-100)] <warning-only|restart (1-65535)> [force]
-client     [no] PEER route-reflector-client
+flag       [no] PEER route-reflector-client
 server     PEER route-server-client
 unchanged  PEER attribute-unchanged [REST...]
 override   PEER as-override

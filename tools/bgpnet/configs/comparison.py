@@ -1,9 +1,9 @@
 """Compares what the tools say of a set of configurations with the tables of real routers that became quiet."""
 from bgpnet.configs.ends import Judge
-from bgpnet.configs.ranks import network_lines, schedule_lines
 from bgpnet.configs.routes import Denial
+from bgpnet.configs.telling import play
 from bgpnet.live import GaveUp
-from bgpnet.network import path_text, routes_of
+from bgpnet.network import path_text
 from bgpnet.stable import stable_assignments
 from bgpnet.wheels import Spokes
 
@@ -121,11 +121,7 @@ class Ends:
 
     def __init__(self, program, ranks, most=None):
         self.ranks = ranks
-        lines, _ = network_lines(ranks, most)
-        text = "".join(line + "\n" for line in lines + schedule_lines(lines))
-        said = program.answer(["play"], text, "the network")
-        self.is_settled = said[0].endswith("settled")
-        routes = routes_of(said[said.index("now") + 1:])
+        self.is_settled, routes = play(program, ranks, most)
         self.played = {prefix: {asn: routes[asn, prefix] for asn in ranks.set.routers} for prefix in ranks.origins}
         self.stable, self.wheel = {}, {}
         for prefix, origin in ranks.origins.items():

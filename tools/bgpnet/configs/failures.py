@@ -2,7 +2,7 @@
 from bgpnet.configs.comparison import Ways, names_of, stable_ends
 from bgpnet.configs.ranks import network_lines
 from bgpnet.failures import Failure, Player
-from bgpnet.network import path_text, read_network
+from bgpnet.network import lines_text, path_text, read_network
 
 
 def without(paths, link):
@@ -17,12 +17,11 @@ class Failures:
 
     def __init__(self, program, ranks, lab):
         self.program, self.ranks, self.lab, self.name = program, ranks, lab, names_of(ranks.set)
-        lines, _ = network_lines(ranks, None)
-        text = "".join(line + "\n" for line in lines)
-        self.network = read_network(program, text, "the network")[0]
+        self.network = read_network(program, lines_text(network_lines(ranks, None)[0]), "the network")[0]
         self.player = Player(program, self.network)
         self.player.before = self.player.states([])[0]
-        self.failures = [Failure(self.network, [link]) for link in self.network.links]
+        self.links = self.network.links
+        self.failures = [Failure(self.network, [link]) for link in self.links]
         self.wrong, self.said, self.states = [], [], 0
 
     def compare(self, name, state, link):

@@ -6,6 +6,7 @@ from bgpnet.configs import reader
 from bgpnet.configs.as_sets import AsSet, has_several
 from bgpnet.configs.bird import reader as bird_reader
 from bgpnet.configs.places import Place, Reasons, refusal
+from bgpnet.configs.ranks import Ranks
 from bgpnet.configs.sessions import Set
 from bgpnet.program import Refusal
 
@@ -39,27 +40,38 @@ def read_router(text, name, of_bird=None):
     return router
 
 
-def read_set(texts, of_bird=(), outside=(), edges=None, down=(), known=()):
+def read_set(texts, of_bird=(), outside=(), edges=None, down=(), known=(), chosen=None):
     """The routers of texts, by the names of their files, and their sessions; a file that another of them includes is no
     router. Some files are said to be of BIRD; ASes outside are there too. Where an AS has several routers the IGP may
     have edges that are given, and links that are down, and routers of `known` names have numbers too. All that is
-    refused of lines and of sessions is told at once."""
+    refused of lines and of sessions is told at once, and of ways, those of chosen prefixes or of all."""
     found = {name: obey(text, name, True if name in of_bird else None) for name, text in texts.items()}
     included = set().union(*(router.included for router, _ in found.values() if router))
-    reasons, routers = Reasons(files=texts), []
+    reasons, routers, is_lost = Reasons(files=texts), [], False
     for name, (router, own) in found.items():
         if os.path.realpath(name) not in included:
             reasons.gather(own)
-            routers += [router] if router and router.asn is not None else []
+            if router and router.asn is not None:
+                router.is_sound = not own
+                routers.append(router)
+            is_lost |= router is None or router.asn is None
+    if is_lost and has_several(routers):  # it may be of any AS
+        for router in routers:
+            router.is_sound = False
     inside = list(routers)
     return set_of(routers + [one for one in (reasons.attempt(one.router, inside) for one in outside) if one], reasons,
-                  edges, down, known)
+                  edges, down, known, chosen)
 
 
-def set_of(routers, reasons=None, edges=None, down=(), known=()):
-    """Routers as a set, by whether an AS has several of them, or of those that they are compared with."""
+def set_of(routers, reasons=None, edges=None, down=(), known=(), chosen=None):
+    """Routers as a set, by whether an AS has several of them, or of those that they are compared with. Where something
+    is refused, so is what is refused of the ways that do not hang on it."""
     if has_several(routers) or known:
-        return AsSet(routers, reasons, edges, down, known)
-    if edges is not None or down:
+        found = AsSet(routers, reasons, edges, down, known)
+    elif edges is not None or down:
         raise Refusal("an IGP is of an AS that has several routers, and each of these has one")
-    return Set(routers, reasons)
+    else:
+        found = Set(routers, reasons)
+    if found.reasons:
+        Ranks(found, chosen)
+    return found

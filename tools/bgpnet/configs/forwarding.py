@@ -1,7 +1,7 @@
 """Where packets go in an AS of several routers: each router sends them towards the next hop of its own route, so they may
 leave the AS elsewhere than the route says, or go round (Griffin and Wilfong, On the Correctness of IBGP Configuration,
 2002: deflections)."""
-from bgpnet.configs.ribs import lengths_from
+from bgpnet.configs.ribs import shortest_ways
 
 
 class Forwarding:
@@ -25,13 +25,9 @@ class Forwarding:
         return owner.number if is_inside else self.exit_of(path)
 
     def first_hop(self, number, target):
-        """The neighbor in the IGP over which a router reaches another, the least of those that are as near; None where
-        that is not known."""
+        """The neighbor in the IGP over which a router reaches another, None where that is not known."""
         edges = self.set.igp.inside.get(self.set.routers[number].asn, {})
-        length = lengths_from(number, edges).get(target)
-        return min((other for other, cost in edges.get(number, {}).items()
-                    if length is not None and cost + lengths_from(other, edges).get(target, length) == length),
-                   default=None)
+        return shortest_ways(number, edges).get(target, (None, None))[1]
 
     def way(self, number):
         """The routers of the AS that packets pass, up to the one at which they leave it, and whether they go round; or

@@ -90,7 +90,8 @@ def is_on(interface, address):
 class Igp:
     """The IGPs of the ASes of a set: by edges of a file, where there are some; else by what the configurations say. A
     link of `down`, two routers, fails: its edge, and their interfaces on a subnet of these two. `inside` has for each AS
-    the costs of its edges by router and neighbor, as far as they are known."""
+    the costs of its edges by router and neighbor, as far as they are known. Nothing is said of an AS of which a router
+    is not sound."""
 
     def __init__(self, routers, edges=None, down=()):
         self.set, self.edges, self.inside = routers, {}, {}
@@ -108,7 +109,8 @@ class Igp:
                                for (address, _), _ in interface.addresses}
         self.announced = sorted({prefix for _, prefix, _ in routers.networks()})
         for own in by_asn.values():
-            self.give(own, edges is not None)
+            if all(router.is_sound for router in own):
+                self.give(own, edges is not None)
 
     def shut(self, link):
         """Shuts the interfaces of two routers that are alone on a subnet, and says whether there are some."""

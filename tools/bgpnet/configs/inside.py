@@ -1,10 +1,10 @@
 """What a router of FRR tells the routers of its own AS, and hears of them: iBGP (RFC 4271 section 5.1, RFC 4456)."""
 from collections import namedtuple
 
-from bgpnet.configs.communities import NO_ADVERTISE, community_text
+from bgpnet.configs.communities import NO_ADVERTISE
 from bgpnet.configs.places import refusal
-from bgpnet.configs.route import filtered, mapped
-from bgpnet.configs.routes import Denial
+from bgpnet.configs.route import filtered, looped, mapped, sent, weigh
+from bgpnet.configs.routes import Denial, denied_by
 from bgpnet.configs.sessions import dotted
 
 # How a route came to its router: by a neighbor of another AS, by a client of its own, or by another of its AS.
@@ -24,12 +24,10 @@ def is_reflected(route):
 def kept_from(router, neighbor, route):
     """The denial of a route that is not told on in the AS, or None."""
     if NO_ADVERTISE in route.communities:
-        said = route.notes and route.notes.get("communities")
-        by = f" by {', '.join(said)}" if said else ""
-        return Denial(neighbor.place, f"community {community_text(NO_ADVERTISE)}{by}")
+        return denied_by(NO_ADVERTISE, route, neighbor.place)
     if not is_reflected(route):
         return None
-    is_client = neighbor.value("client", False)
+    is_client = neighbor.value("route-reflector-client", False)
     if route.heard.kind == INTERNAL and not is_client:
         return Denial(neighbor.place, "the route came by iBGP, and neither neighbor is a client")
     reflection = router.options.get(REFLECTION)
@@ -64,22 +62,14 @@ def told(router, neighbor, prefix, held):
         route.clusters = (router.cluster,) + route.clusters
     if neighbor.value("next-hop-self force", False) or neighbor.value("next-hop-self", False) and not reflects:
         route.next_hop = None
-    if not route.has_med:
-        route.med = 0
-    if not neighbor.sends("standard"):
-        route.communities = ()
-    if not neighbor.sends("large"):
-        route.large = ()
-    route.weight = 0
-    if route.notes is not None:
-        route.notes.pop("weight", None)
-    return route
+    return sent(neighbor, route)
 
 
 def heard(router, neighbor, far, prefix, route):
     """The route that comes into a router's table of one that a neighbor of its own AS tells; or why none comes."""
-    if router.asn in route.path:
-        return Denial(neighbor.place, f"AS {router.asn} stands in the path")
+    denial = looped(router, neighbor, route)
+    if denial:
+        return denial
     if route.originator == router.router_id.name:
         return Denial(neighbor.place, f"ORIGINATOR_ID is {dotted(route.originator)}, the router's own")
     if router.cluster in route.clusters:
@@ -87,10 +77,7 @@ def heard(router, neighbor, far, prefix, route):
     denial = filtered(router, neighbor, "in", prefix, route.path)
     if denial:
         return denial
-    weight = neighbor.weight_line()
-    if weight:
-        route.weight = weight.name
-        route.note("weight", f"{weight.place} neighbor weight")
+    weigh(neighbor, route)
     return mapped(router, neighbor, "in", prefix, route) or reached(router, neighbor, far, route)
 
 
@@ -109,7 +96,7 @@ def reached(router, neighbor, far, route):
     metric = router.reach.metric(route.next_hop, is_near)
     if metric is None:
         return Denial(neighbor.place, f"the next hop {dotted(route.next_hop)} is not reached")
-    kind = EXTERNAL if is_external else CLIENT if neighbor.value("client", False) else INTERNAL
+    kind = EXTERNAL if is_external else CLIENT if neighbor.value("route-reflector-client", False) else INTERNAL
     route.heard = Heard(kind, far_id(far, router), neighbor.address, far.router.number, metric)
     return route
 
@@ -122,8 +109,8 @@ def far_id(far, router):
 
 def is_direct(router, neighbor):
     """Whether a neighbor of another AS has to be connected."""
-    return neighbor.value("ebgp-multihop", 1) == 1 and neighbor.value("ttl-security", 1) == 1 and \
-        not neighbor.value("unconnected", False) and not router.option("bgp disable-ebgp-connected-route-check")
+    return neighbor.value("ebgp-multihop", 1) == 1 and neighbor.value("ttl-security", 1) == 1 and not (
+        neighbor.value("disable-connected-check", False) or router.option("bgp disable-ebgp-connected-route-check"))
 
 
 def leaving(router, neighbor, far, route):

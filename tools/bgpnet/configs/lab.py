@@ -24,11 +24,12 @@ ALIKE, CHANGES = 5, 8
 
 
 class Lab:
-    """The processes of a set of routers. `trees` has where the packages of each software are unpacked."""
+    """The processes of a set of routers. `trees` has where the packages of each software are unpacked. `others` are
+    processes beside them."""
 
     def __init__(self, trees, routers, texts, folder):
         self.set, self.folder, self.trees = routers, pathlib.Path(folder), trees
-        self.processes, self.homes = {}, {}
+        self.processes, self.homes, self.others = {}, {}, []
         self.daemons = {asn: DAEMONS[router.language].Daemon(trees[router.language], routers, asn, texts[asn],
                                                              self.folder / str(asn))
                         for asn, router in routers.routers.items() if not router.is_origins}
@@ -52,11 +53,15 @@ class Lab:
         shutil.rmtree(daemon.folder, ignore_errors=True)
         daemon.folder.mkdir(parents=True)
         (daemon.folder / "conf").write_text(daemon.copy(self.is_far), encoding="latin-1")
-        tree = self.trees[daemon.language]
-        environment = dict(os.environ, LD_LIBRARY_PATH=":".join(f"{tree}/{one}" for one in LIBRARIES))
-        with open(daemon.folder / "log", "w") as log:
-            self.processes[asn] = subprocess.Popen(self.inside(asn, daemon.words(self.addresses(asn))), env=environment,
-                                                   stdout=log, stderr=subprocess.STDOUT, stdin=subprocess.DEVNULL)
+        self.processes[asn] = self.run_one(asn, daemon.words(self.addresses(asn)), "log")
+
+    def run_one(self, asn, words, log):
+        """A process of a router, which says what it has to say into a file."""
+        daemon = self.daemons[asn]
+        libraries = ":".join(f"{self.trees[daemon.language]}/{one}" for one in LIBRARIES)
+        with open(daemon.folder / log, "w") as out:
+            return subprocess.Popen(self.inside(asn, words), env=dict(os.environ, LD_LIBRARY_PATH=libraries), stdout=out,
+                                    stderr=subprocess.STDOUT, stdin=subprocess.DEVNULL)
 
     # ---- namespaces
 
@@ -70,14 +75,18 @@ class Lab:
         subprocess.run(self.inside(asn, ["ip", "-batch", "-"]), input="\n".join(lines), text=True, check=True,
                        capture_output=True)
 
-    def make_homes(self):
-        """A namespace for each router, and a pair of interfaces for each session, with its addresses."""
-        for asn in self.set.routers:
-            self.homes[asn] = subprocess.Popen(["unshare", "-n", "sleep", "900"], stdin=subprocess.DEVNULL)
+    def make_spaces(self, numbers):
+        """Makes a namespace for each of these."""
         own = os.readlink("/proc/self/ns/net")
+        for number in numbers:
+            self.homes[number] = subprocess.Popen(["unshare", "-n", "sleep", "900"], stdin=subprocess.DEVNULL)
         for home in self.homes.values():
             while os.readlink(f"/proc/{home.pid}/ns/net") == own:
                 time.sleep(0.005)
+
+    def make_homes(self):
+        """A namespace for each router, and a pair of interfaces for each session, with its addresses."""
+        self.make_spaces(self.set.routers)
         lines = {asn: ["link set lo up"] for asn in self.set.routers}
         pairs = []
         for asn, ends in self.set.ends.items():
@@ -92,9 +101,10 @@ class Lab:
             self.run_in(asn, own)
 
     def stop(self):
-        for process in [*self.processes.values(), *self.homes.values()]:
+        processes = [*self.others, *self.processes.values(), *self.homes.values()]
+        for process in processes:
             process.terminate()
-        for process in [*self.processes.values(), *self.homes.values()]:
+        for process in processes:
             try:
                 process.wait(5)
             except subprocess.TimeoutExpired:
@@ -163,7 +173,8 @@ class Lab:
             return "down"
         if self.is_far:
             time.sleep(FIRST - ALIKE * LOOK)
-        began, last, alike, changes, quiet = time.monotonic(), None, 0, 0, self.interval
+        began = changed = time.monotonic()
+        last, alike, changes, quiet = None, 0, 0, self.interval
         quiet += quiet and 2
         while alike < ALIKE or time.monotonic() - changed < quiet:
             at = time.monotonic()

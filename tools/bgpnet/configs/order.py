@@ -1,7 +1,8 @@
 """The order of a router's ways: the decision process of FRR."""
+from functools import partial
 from itertools import permutations
 
-from bgpnet.configs.pairs import in_order, refuse_circle, shortest_circle
+from bgpnet.configs.pairs import groups_of, in_order, refuse_circle, shortest_circle
 from bgpnet.configs.routes import MOST
 from bgpnet.network import MOST_PATHS
 
@@ -23,6 +24,15 @@ def metric(router, route):
 def compares_metric(router, one, other):
     """Whether the metrics of two routes are compared: of those whose paths begin with the same AS, or of all."""
     return router.option("bgp always-compare-med") or one.path[:1] == other.path[:1]
+
+
+def compares_all(router, group):
+    """Whether the metrics of all ways of a group are compared; None where some are, and False where none has to be, since
+    those that begin with the same AS have one."""
+    firsts = {way.route.path[:1] for way in group}
+    if len(firsts) == 1 or router.option("bgp always-compare-med"):
+        return True
+    return False if len({(way.route.path[:1], metric(router, way.route)) for way in group}) == len(firsts) else None
 
 
 class Tie:
@@ -101,12 +111,9 @@ class Order:
 
     def __init__(self, routers, prefix, asn, ways):
         self.set, self.prefix, self.router = routers, prefix, routers.routers[asn]
-        groups = {}
-        for way in ways:
-            groups.setdefault(coarse_key(self.router, way), []).append(way)
-        self.ways, self.ties = [], []
-        for key in sorted(groups):
-            self.ways += self.sorted_group(groups[key])
+        self.ties = []
+        self.ways = [way for group in groups_of(ways, partial(coarse_key, self.router))
+                     for way in self.sorted_group(group)]
 
     def last_key(self, way):
         """The router id and the address of the peer that tells a way, then its own numbers."""
@@ -124,20 +131,11 @@ class Order:
         return (metrics[0] < metrics[1]) - (metrics[0] > metrics[1])
 
     def sorted_group(self, group):
-        if len(group) == 1:
-            return group
-        firsts = {way.route.path[:1] for way in group}
-        if len(firsts) == 1 or self.router.option("bgp always-compare-med"):
-            keyed = {}
-            for way in group:
-                keyed.setdefault(metric(self.router, way.route), []).append(way)
-            found = []
-            for key in sorted(keyed):
-                found += self.by_id(keyed[key])
-            return found
-        if len({(way.route.path[:1], metric(self.router, way.route)) for way in group}) == len(firsts):
-            return self.by_id(group)
-        return self.by_pairs(group)
+        is_compared = compares_all(self.router, group)
+        if is_compared:
+            alike = groups_of(group, lambda way: metric(self.router, way.route))
+            return [way for own in alike for way in self.by_id(own)]
+        return self.by_pairs(group) if is_compared is None else self.by_id(group)
 
     def by_id(self, group):
         """Ways that are alike up to the router id."""

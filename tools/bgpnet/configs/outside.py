@@ -2,12 +2,12 @@
 import struct
 
 from bgpnet.attributes import AS_PATH, Update, attributes_of, segments_of
-from bgpnet.configs.reader import read_router
+from bgpnet.configs.files import read_router
 from bgpnet.configs.sessions import dotted
-from bgpnet.configs.syntax import prefix_of
+from bgpnet.configs.syntax import number_of, prefix_of
 from bgpnet.messages import UPDATE, messages_of
 from bgpnet.mrt import is_mrt, is_table, peerings_of, table_routes
-from bgpnet.network import Prefix
+from bgpnet.network import Prefix, lines_text
 from bgpnet.program import Refusal, read_octets
 from bgpnet.reports import is_json, numbers_of, objects_of
 
@@ -40,9 +40,9 @@ class Outside:
             words = line.replace("-", " ").split()
             if not words or words[0].startswith(("#", "!")):
                 continue
-            if prefix_of(words[0]) is None or not all(word.isdigit() and len(word) < 11 for word in words[1:]):
+            path = tuple(map(number_of, words[1:])) or (self.asn,)
+            if prefix_of(words[0]) is None or None in path:
                 raise Refusal(f"{self.name}:{number}: no prefix with a path of AS numbers")
-            path = tuple(map(int, words[1:])) or (self.asn,)
             if path[0] != self.asn:
                 raise Refusal(f"{self.name}:{number}: the path does not begin with {self.asn}")
             self.see(Prefix.read(words[0]), path)
@@ -113,10 +113,10 @@ class Outside:
         for path, name in maps.items():
             lines.append(f"route-map {name} permit 10")
             lines += [f" set as-path prepend {' '.join(map(str, path[1:]))}"] * (len(path) > 1)
-        return "".join(line + "\n" for line in lines)
+        return lines_text(lines)
 
     def router(self, routers):
-        return read_router(self.text(routers), f"{self.name} (AS {self.asn})")
+        return read_router(self.text(routers), f"{self.name} (AS {self.asn})", False)
 
 
 def address_near(router, neighbor):

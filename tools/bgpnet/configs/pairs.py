@@ -3,6 +3,14 @@ from bgpnet.configs.places import refusal
 from bgpnet.network import path_text
 
 
+def groups_of(ways, key):
+    """The ways in groups that a key does not tell apart, the least first."""
+    groups = {}
+    for way in ways:
+        groups.setdefault(key(way), []).append(way)
+    return [groups[own] for own in sorted(groups)]
+
+
 def in_order(kinds, above):
     """The kinds, each behind those that `above` has for it, as near to their own order as that allows; or as many as
     come before a circle, and what is left."""

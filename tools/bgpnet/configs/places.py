@@ -33,8 +33,8 @@ class Reasons:
     def __init__(self, is_one_a_line=False, files=()):
         self.found, self.is_one_a_line, self.places, self.files = {}, is_one_a_line, set(), files
 
-    def __bool__(self):
-        return bool(self.found)
+    def __len__(self):
+        return len(self.found)
 
     def add(self, why):
         for line in why.lines:

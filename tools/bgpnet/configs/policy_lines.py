@@ -122,8 +122,8 @@ class PolicyLines(Blocks):
 
     def do_communities(self, words, line):
         kind = words[1][:-len("-list")]
-        at = 3 if words[2].isdigit() else 4
-        name, is_standard = words[at - 1], words[2] == "standard" or words[2].isdigit() and int(words[2]) < 100
+        at = 3 if words[2].isdecimal() else 4
+        name, is_standard = words[at - 1], words[2] == "standard" or words[2].isdecimal() and int(words[2]) < 100
         permits, number, rest = self.numbered(words, at)
         if kind == "large-community" and at == 4 and name.isdigit():
             self.refuse(f"'{line.strip()}': {NOT_TAKEN}: a number is no name here")

@@ -22,14 +22,29 @@ class Ranks:
     """The order of each router's ways for each prefix.
 
     `orders` has for each prefix the orders by router, `origins` the origin of each prefix that is announced. Where an
-    AS has several routers ties are refused, unless they are asked for."""
+    AS has several routers ties are refused, unless they are asked for. What is refused of ways is told with all else
+    that is refused of the set; of each line the first."""
 
     def __init__(self, routers, chosen=None, with_notes=False, with_ties=False):
         self.set, self.orders, self.origins = routers, {}, {}
-        reasons = Reasons(is_one_a_line=True, files=[router.name for router in routers.routers.values()])
-        self.follower = Follower(routers, reasons, with_notes)
-        known = {}
-        for prefix, (router, network) in routers.origins().items():
+        names = routers.reasons.files or [router.name for router in routers.routers.values()]
+        reasons, of_ways = Reasons(files=names), Reasons(is_one_a_line=True)
+        self.follower = Follower(routers, of_ways, with_notes)
+        self.follow(of_ways, chosen)
+        if routers.refuses_ties and not routers.reasons and not with_ties and not of_ways:
+            for place, said in self.tie_notes():
+                of_ways.add(refusal(place, said))
+        reasons.gather(routers.reasons)
+        reasons.gather(of_ways)
+        reasons.refuse()
+        for prefix in chosen or ():
+            if prefix not in self.origins:
+                raise Refusal(f"no router announces {prefix}")
+
+    def follow(self, reasons, chosen):
+        """Follows and orders the ways of each prefix, of some or of all, and keeps why they are refused."""
+        routers, known = self.set, {}
+        for prefix, (router, network) in routers.origins(reasons).items():
             if chosen is not None and prefix not in chosen:
                 continue
             ways = reasons.attempt(self.follower.ways, prefix, router, network)
@@ -40,7 +55,7 @@ class Ranks:
                 orders = {asn: reasons.attempt(routers.routers[asn].order, routers, prefix, found)
                           for asn, found in ways.items()}
                 known[id(ways)] = orders
-                if routers.refuses_ties and None not in orders.values():
+                if routers.refuses_ties and not routers.reasons and None not in orders.values():
                     self.leave_lasting(orders, router.number)
                     for order in self.by_steps(orders).values():
                         reasons.attempt(order.refuse_circles)
@@ -49,13 +64,6 @@ class Ranks:
             reasons.add(refusal(next(iter(routers.routers.values())).place,
                                 f"{len(self.origins)} prefixes, and a network has at most {MOST_PREFIXES}: --prefix "
                                 "takes some"))
-        if routers.refuses_ties and not with_ties and not reasons:
-            for place, said in self.tie_notes():
-                reasons.add(refusal(place, said))
-        reasons.refuse()
-        for prefix in chosen or ():
-            if prefix not in self.origins:
-                raise Refusal(f"no router announces {prefix}")
 
     @staticmethod
     def by_steps(orders):

@@ -26,10 +26,10 @@ def check_calls(router, name):
 
 def check_detection(router, neighbor):
     """Refuses the detection of loops by the sender where a map excludes AS numbers: else the peer finds the same."""
-    excludes = any("exclude" in entry.sets for one in router.maps.values() for entry in one.ordered())
-    if excludes and "loop detection" in neighbor.said:
-        raise refusal(neighbor.said["loop detection"].place, "sender-as-path-loop-detection beside 'set as-path "
-                      "exclude': what is told depends on which neighbors FRR tells alike")
+    line = neighbor.said.get("sender-as-path-loop-detection")
+    if line and any("exclude" in entry.sets for entry in router.all_entries()):
+        raise refusal(line.place, "sender-as-path-loop-detection beside 'set as-path exclude': what is told depends on "
+                                  "which neighbors FRR tells alike")
 
 
 def undefined(router):
@@ -39,14 +39,14 @@ def undefined(router):
             router.warn(place, f"there is no {what} {name}: {effect}")
 
     lists = {"distribute-list": "access-list", "prefix-list": "prefix-list", "filter-list": "as-path"}
-    for neighbor in [*router.groups.values(), *router.neighbors.values()]:
+    for neighbor in router.all_neighbors():
         for (kind, direction), line in neighbor.policies.items():
             what = lists.get(kind, kind)
             lacks(what, line.name, line.place, what, f"it denies everything {direction}")
     for network in router.networks.values():
         if network.map_name:
             lacks("route-map", network.map_name, network.place, "route-map", "the network is not announced")
-    for entry in (entry for one in router.maps.values() for entry in one.ordered()):
+    for entry in router.all_entries():
         for kind, (value, place) in entry.matches.items():
             if kind in router.lists:
                 lacks(kind, value[0] if isinstance(value, tuple) else value, place, f"{kind} list", "it fits nothing")
@@ -61,13 +61,13 @@ def undefined(router):
 def without_entries(router):
     """A warning for each prefix-list of a description alone: what it is to FRR depends on the order of the lines."""
     empty = {name: one for name, one in router.lists["prefix-list"].items() if not one.entries}
-    for neighbor in [*router.groups.values(), *router.neighbors.values()]:
+    for neighbor in router.all_neighbors():
         for (kind, direction), line in neighbor.policies.items():
             if kind == "prefix-list" and line.name in empty:
                 is_above = empty[line.name].place.line < line.place.line
                 effect = "permits" if is_above else "denies"
                 router.warn(line.place, f"prefix-list {line.name} has no entries: it {effect} everything {direction}")
-    for entry in (entry for one in router.maps.values() for entry in one.ordered()):
+    for entry in router.all_entries():
         value, place = entry.matches.get("prefix-list", (None, None))
         if value in empty:
             is_above = empty[value].place.line < place.line
@@ -77,7 +77,7 @@ def without_entries(router):
 def waiting(router):
     """A warning for each neighbor at which UPDATEs wait, and what that may come to where duplicates are suppressed."""
     suppresses = router.suppresses is None or router.suppresses.name
-    for neighbor in [*router.groups.values(), *router.neighbors.values()]:
+    for neighbor in router.all_neighbors():
         line = neighbor.said.get("interval")
         if line and line.name:
             said = "which changes no end, and may change which of several ends comes"
@@ -117,16 +117,9 @@ def obey(text, name):
             break
     for name in router.maps:
         reasons.attempt(check_calls, router, name)
-    for neighbor in [*router.groups.values(), *router.neighbors.values()]:
+    for neighbor in router.all_neighbors():
         reasons.attempt(check_detection, router, neighbor)
     undefined(router)
     without_entries(router)
     waiting(router)
     return router, reasons
-
-
-def read_router(text, name):
-    """The router that a file is the configuration of."""
-    router, reasons = obey(text, name)
-    reasons.refuse()
-    return router

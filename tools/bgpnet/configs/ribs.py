@@ -20,19 +20,23 @@ def network_of(address, length):
     return address & mask_of(length)
 
 
-def lengths_from(start, edges):
-    """The length of the shortest way from a router to each that is reached; `edges` has of each router the costs by
-    neighbor."""
-    found, queue = {}, [(0, start)]
+def shortest_ways(start, edges):
+    """The length of the shortest way from a router to each that is reached, and the neighbor over which it leads, the
+    least of those that are as near; `edges` has of each router the costs by neighbor."""
+    found, queue = {}, [(0, 0, start)]
     while queue:
-        length, at = heapq.heappop(queue)
+        length, hop, at = heapq.heappop(queue)
         if at in found:
             continue
-        found[at] = length
+        found[at] = length, hop
         for other, cost in edges.get(at, {}).items():
             if other not in found:
-                heapq.heappush(queue, (length + cost, other))
+                heapq.heappush(queue, (length + cost, hop or other, other))
     return found
+
+
+def lengths_from(start, edges):
+    return {router: length for router, (length, _) in shortest_ways(start, edges).items()}
 
 
 class Rib:

@@ -1,9 +1,9 @@
 """What the policy of a router of FRR makes of a route."""
 from functools import lru_cache
 
-from bgpnet.configs.communities import BLACKHOLE, KEPT_IN, NO_EXPORT, SHUTDOWN, community_text, sorted_set
+from bgpnet.configs.communities import BLACKHOLE, KEPT_IN, NO_EXPORT, SHUTDOWN, sorted_set
 from bgpnet.configs.lists import block_fits, path_fits
-from bgpnet.configs.routes import MOST, ORIGINS, Denial, Route
+from bgpnet.configs.routes import MOST, ORIGINS, Denial, Route, denied_by
 
 OWN_WEIGHT = 32768
 
@@ -251,9 +251,7 @@ def told(router, neighbor, prefix, route, is_own):
     """The route that a router tells a neighbor of one in its table, or why it tells none."""
     kept = KEPT_IN.intersection(route.communities)
     if kept:
-        said = route.notes and route.notes.get("communities")
-        by = f" by {', '.join(said)}" if said else ""
-        return Denial(neighbor.place, f"community {community_text(min(kept))}{by}")
+        return denied_by(min(kept), route, neighbor.place)
     denial = filtered(router, neighbor, "out", prefix, route.path)
     if denial:
         return denial
@@ -265,31 +263,45 @@ def told(router, neighbor, prefix, route, is_own):
     if denial:
         return denial
     route.path = (router.asn,) + route.path
-    route.has_preference, route.preference, route.weight = False, 0, 0
+    route.has_preference, route.preference = False, 0
+    route.note("local-pref")
+    return sent(neighbor, route)
+
+
+def sent(neighbor, route):
+    """A route without what no UPDATE to a neighbor has."""
+    route.weight = 0
+    route.note("weight")
     if not route.has_med:
         route.med = 0
     if not neighbor.sends("standard"):
         route.communities = ()
     if not neighbor.sends("large"):
         route.large = ()
-    if route.notes is not None:
-        route.notes.pop("local-pref", None)
-        route.notes.pop("weight", None)
     return route
 
 
-def heard(router, neighbor, prefix, route):
-    """The route that comes into a router's table of one that a neighbor tells, which it changes; or why none comes."""
-    if router.asn in route.path:
-        return Denial(neighbor.place, f"AS {router.asn} stands in the path")
-    route.preference, route.has_preference = 0, False
-    denial = filtered(router, neighbor, "in", prefix, route.path) or without_policy(router, neighbor, "in")
-    if denial:
-        return denial
+def looped(router, neighbor, route):
+    """The denial of a route whose path has the router's AS, or None."""
+    return Denial(neighbor.place, f"AS {router.asn} stands in the path") if router.asn in route.path else None
+
+
+def weigh(neighbor, route):
+    """Gives a route the weight that a line of its neighbor says."""
     weight = neighbor.weight_line()
     if weight:
         route.weight = weight.name
         route.note("weight", f"{weight.place} neighbor weight")
+
+
+def heard(router, neighbor, prefix, route):
+    """The route that comes into a router's table of one that a neighbor tells, which it changes; or why none comes."""
+    route.preference, route.has_preference = 0, False
+    denial = looped(router, neighbor, route) or filtered(router, neighbor, "in", prefix, route.path) or \
+        without_policy(router, neighbor, "in")
+    if denial:
+        return denial
+    weigh(neighbor, route)
     denial = mapped(router, neighbor, "in", prefix, route)
     if denial:
         return denial

@@ -75,6 +75,14 @@ class Router(Speaker):
         """The interface of a name."""
         return self.interfaces.setdefault(name, Interface(name, place))
 
+    def all_neighbors(self):
+        """Its groups of neighbors, and its neighbors."""
+        return [*self.groups.values(), *self.neighbors.values()]
+
+    def all_entries(self):
+        """The entries of all its route-maps."""
+        return [entry for one in self.maps.values() for entry in one.ordered()]
+
     @property
     def cluster(self):
         """The cluster id: the router id, where no line says another (RFC 4456 section 7)."""

@@ -1,5 +1,9 @@
 """A route with its attributes, and why a router has none."""
 from collections import namedtuple
+from dataclasses import dataclass
+from typing import Any, Dict, Optional, Tuple
+
+from bgpnet.configs.communities import community_text
 
 MOST = 2**32 - 1
 ORIGINS = ("igp", "egp", "incomplete")
@@ -8,6 +12,13 @@ ORIGINS = ("igp", "egp", "incomplete")
 Denial = namedtuple("Denial", "place why")
 
 
+def denied_by(community, route, place):
+    """The denial of a route that a community of it stops, with the lines by which its communities came."""
+    lines = route.notes and route.notes.get("communities")
+    return Denial(place, f"community {community_text(community)}" + (f" by {', '.join(lines)}" if lines else ""))
+
+
+@dataclass(eq=False)
 class Route:
     """A route in a router's table, or on its way to one.
 
@@ -19,21 +30,25 @@ class Route:
     `clusters` are ORIGINATOR_ID and CLUSTER_LIST (RFC 4456). What the router that has it knows besides stands in
     `heard`, or None of an own route."""
 
-    __slots__ = ("path", "origin", "med", "has_med", "preference", "has_preference", "weight", "communities", "large",
-                 "customer", "notes", "next_hop", "originator", "clusters", "heard")
-
-    def __init__(self, path=(), origin=0, med=0, has_med=False, preference=0, has_preference=False, weight=0,
-                 communities=(), large=(), customer=None, notes=None):
-        self.path, self.origin, self.med, self.has_med = path, origin, med, has_med
-        self.preference, self.has_preference, self.weight = preference, has_preference, weight
-        self.communities, self.large, self.customer, self.notes = communities, large, customer, notes
-        self.next_hop, self.originator, self.clusters, self.heard = None, None, (), None
+    path: Tuple[int, ...] = ()
+    origin: Optional[int] = 0
+    med: int = 0
+    has_med: bool = False
+    preference: int = 0
+    has_preference: bool = False
+    weight: int = 0
+    communities: Tuple[Any, ...] = ()
+    large: Tuple[Any, ...] = ()
+    customer: Optional[int] = None
+    notes: Optional[Dict[Any, Any]] = None
+    next_hop: Optional[int] = None
+    originator: Optional[int] = None
+    clusters: Tuple[int, ...] = ()
+    heard: Any = None
 
     def copy(self):
-        route = Route(self.path, self.origin, self.med, self.has_med, self.preference, self.has_preference, self.weight,
-                      self.communities, self.large, self.customer, None if self.notes is None else dict(self.notes))
-        route.next_hop, route.originator, route.clusters = self.next_hop, self.originator, self.clusters
-        route.heard = self.heard
+        route = object.__new__(type(self))
+        route.__dict__.update(self.__dict__, notes=None if self.notes is None else dict(self.notes))
         return route
 
     def note(self, attribute, said=None, adds=False):

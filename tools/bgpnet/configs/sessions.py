@@ -28,6 +28,7 @@ def by_number(routers, reasons):
         if router.router_id is not None:
             other = by_id.setdefault(router.router_id.name, router)
             if other is not router:
+                router.is_sound = other.is_sound = False
                 reasons.add(refusal(router.router_id.place, f"the router id {dotted(router.router_id.name)} is that of "
                                                             f"{other.router_id.place} too"))
     return {number: numbers[number] for number in sorted(numbers)}
@@ -37,9 +38,11 @@ class Set(Named):
     """The routers of a set of configurations, and their sessions.
 
     `ends` has for each router's number its end of each session, by the number of the peer; `up` those of sessions that
-    carry routes. `reasons` are those why lines of the files are refused: with what is refused of sessions all of them
-    are told at once. What hangs on refused lines is not refused by itself. `refuses_ties` says whether ties are no
-    order here, and `about_ties` what is said of one."""
+    carry routes. `reasons` are those why lines of the files and sessions are refused; what hangs on refused lines is
+    not refused by itself. Where there are some, `up` has no session of a router that is not sound, none that is
+    `refused` itself, and none with an `unsure` address, which no line has, or two have: what is found of ways over the
+    others holds, whatever is mended. `refuses_ties` says whether ties are no order here, and `about_ties` what is said
+    of one."""
 
     refuses_ties = False
     about_ties = ", and here they stand by router id (without 'bgp bestpath compare-routerid')"
@@ -49,31 +52,20 @@ class Set(Named):
         self.routers = by_number(routers, self.reasons)
         self.called = telling({asn: router.host for asn, router in self.routers.items() if router.host})
         self.owners, self.ends = {}, {asn: {} for asn in self.routers}
+        self.unsure, self.refused = set(), set()
         self.find_owners()
-        self.find_external()
+        self.find_unsaid()
         self.find_sessions()
         self.up = {asn: [peer for peer in sorted(ends) if self.carries(asn, peer)] for asn, ends in self.ends.items()}
         if not self.reasons:
-            self.check_connected()
-        self.reasons.refuse()
+            self.reasons.attempt(self.check_connected)
 
     # ---- whose an address is
 
     def find_owners(self):
         """The router of each address that lines say something of: interfaces and sources say whose their own are, and
         neighbors with a number whose the other end's is."""
-        for router in self.routers.values():
-            for address, place in router.addresses.items():
-                if address >> 24 != 127:
-                    self.claim(address, router, place)
-            for neighbor in router.neighbors.values():
-                source = neighbor.line("source")
-                if source and isinstance(source.name, int):
-                    self.claim(source.name, router, source.place)
-        for router in self.routers.values():
-            for neighbor in router.neighbors.values():
-                if neighbor.asn is None and router.is_whole:
-                    self.reasons.add(refusal(neighbor.place, f"neighbor {neighbor.key}: no line says its AS"))
+        self.find_own()
         for router, neighbor in self.named():
             if neighbor.asn.name in self.routers and neighbor.asn.name != router.asn:
                 self.claim(neighbor.address, self.routers[neighbor.asn.name], neighbor.asn.place)
@@ -82,11 +74,28 @@ class Set(Named):
             if owner and neighbor.asn.name not in ("external", *self.routers):
                 self.reasons.add(refusal(neighbor.asn.place, f"neighbor {neighbor.key} is AS {neighbor.asn.name} here, "
                                                              f"and its address is one of {owner.asn} at {place}"))
-        ids = {router.router_id.name: router for router in self.routers.values() if router.router_id}
+        ids = self.ids()
         for _, neighbor in self.named():
             if neighbor.asn.name == "external" and neighbor.address in ids:
                 owner = ids[neighbor.address]
                 self.owners.setdefault(neighbor.address, (owner, owner.router_id.place))
+
+    def find_own(self):
+        """The router of each address of an interface, or of a source."""
+        for router in self.routers.values():
+            for address, place in router.addresses.items():
+                if address >> 24 != 127:
+                    self.claim(address, router, place)
+            for neighbor in router.neighbors.values():
+                source = neighbor.line("source")
+                if source and isinstance(source.name, int):
+                    self.claim(source.name, router, source.place)
+                if neighbor.asn is None and router.is_whole:
+                    self.reasons.add(refusal(neighbor.place, f"neighbor {neighbor.key}: no line says its AS"))
+
+    def ids(self):
+        """The routers by their router ids."""
+        return {router.router_id.name: router for router in self.routers.values() if router.router_id}
 
     def named(self):
         """The neighbors of which lines say the AS, each with its router."""
@@ -97,43 +106,61 @@ class Set(Named):
         """Says that a router has an address."""
         other = self.owners.setdefault(address, (router, place))
         if other[0] is not router:
-            self.reasons.add(refusal(place, f"{dotted(address)} is an address of {router.asn} here, and of "
-                                            f"{other[0].asn} at {other[1]}"))
+            self.unsure.add(address)
+            self.reasons.add(refusal(place, f"{dotted(address)} is an address of {self.label(router.number)} here, and "
+                                            f"of {self.label(other[0].number)} at {other[1]}"))
 
     def peer_of(self, router, neighbor):
         """The router that a neighbor is, or None where it is none of the set."""
-        number, owner = neighbor.asn.name, self.owners.get(neighbor.address)
+        number, owner = neighbor.asn.name, self.owner(neighbor.address)
         if number != "external":
-            if owner and owner[0].asn != number:
+            if owner and owner.asn != number:
                 raise Passed  # it was refused by whose the address is
             if number == router.asn:  # another router of the AS, of which no file is there
-                return owner and owner[0]
+                return owner
             return self.routers.get(number)
         if owner is None and self.reasons:
             raise Passed
         if owner is None:
             raise refusal(neighbor.place, f"neighbor {neighbor.key}: which router has this address no line says: give "
                                           "its AS number, or the addresses of interfaces")
-        return owner[0]
+        return owner
 
-    def find_external(self):
-        """The routers of neighbors without a number whose address no line says: the only one left that names the router
-        and is none of its other neighbors, as long as such are found."""
+    def owner(self, address):
+        """The router of an address, or None where no line says it."""
+        return self.owners.get(address, (None,))[0]
+
+    def find_unsaid(self):
+        """The routers of neighbors whose address no line says: the only one left that names the router and is none of
+        its other neighbors, as long as such are found."""
         left = [(router, neighbor) for router, neighbor in self.named()
-                if neighbor.asn.name == "external" and neighbor.address not in self.owners]
+                if self.is_by_address(neighbor) and neighbor.address not in self.owners]
         is_new = True
         while left and is_new:
             is_new = False
             for router, neighbor in list(left):
-                known = {self.owners[one.address][0] for one in router.neighbors.values() if one.address in self.owners}
-                naming = [other for other in self.routers.values() if other is not router and other not in known
-                          and any(of is other and (one.asn.name == router.asn or one.address in self.owners
-                                                   and self.owners[one.address][0] is router)
-                                  for of, one in self.named())]
+                known = [router, *(self.owner(one.address) for one in router.neighbors.values())]
+                naming = [other for other in self.routers.values()
+                          if other not in known and self.names_back(router, neighbor, other)]
                 if len(naming) == 1:
-                    self.owners[neighbor.address] = naming[0], neighbor.place
+                    self.guess(neighbor.address, naming[0], neighbor.place)
                     left.remove((router, neighbor))
                     is_new = True
+
+    def guess(self, address, router, place):
+        """Takes an address to be that of a router, by what is left."""
+        self.owners[address] = router, place
+        self.unsure.add(address)
+
+    @staticmethod
+    def is_by_address(neighbor):
+        """Whether a neighbor's address alone says which router it is."""
+        return neighbor.asn.name == "external"
+
+    def names_back(self, router, neighbor, other):
+        """Whether another router may be a neighbor whose address no line says: one of its neighbors is the router."""
+        return any(of is other and (one.asn.name == router.asn or self.owner(one.address) is router)
+                   for of, one in self.named())
 
     # ---- sessions
 
@@ -148,7 +175,10 @@ class Set(Named):
                                             f"{self.routers[peer].place} names no neighbor {self.label(number)}: "
                                             "there is no session")
             elif number < peer:
+                before = len(self.reasons)
                 self.reasons.attempt(self.join, End(router, neighbor), End(self.routers[peer], other))
+                if len(self.reasons) > before:
+                    self.refused.add(frozenset((number, peer)))
         for asn, ends in self.ends.items():
             if len(ends) > MOST_LINKS:
                 router = self.routers[asn]
@@ -245,7 +275,11 @@ class Set(Named):
                                       f"other end, {far.neighbor.place}, sends with {lives}")
 
     def carries(self, asn, peer):
-        return self.ends[asn][peer].neighbor.is_active and self.ends[peer][asn].neighbor.is_active
+        """Whether routes go over a session, as far as that is known where something is refused."""
+        ends = self.ends[asn][peer], self.ends[peer][asn]
+        is_sure = not self.reasons or frozenset((asn, peer)) not in self.refused and all(
+            end.router.is_sound and end.neighbor.address not in self.unsure for end in ends)
+        return is_sure and all(end.neighbor.is_active for end in ends)
 
     def check_connected(self):
         first = next(iter(self.routers))
@@ -276,17 +310,20 @@ class Set(Named):
                 found.append((place, said))
         return found
 
-    def origins(self):
-        """The router of each prefix that it announces, and the network."""
-        found, reasons = {}, Reasons()
+    def origins(self, reasons=None):
+        """The router of each prefix that it announces, and the network. Where reasons are kept, prefixes that are
+        refused are left out."""
+        found, kept, twice = {}, Reasons() if reasons is None else reasons, set()
         for router, prefix, network in self.networks():
-            if reasons.attempt(router.tells, network):
+            if router.is_sound and kept.attempt(router.tells, network):
                 other = found.setdefault(prefix, (router, network))
                 if other[0] is not router:
-                    reasons.add(refusal(network.place, f"{prefix} has another origin at {other[1].place}: a prefix has "
-                                                       "one"))
-        reasons.refuse()
-        return {prefix: found[prefix] for prefix in sorted(found)}
+                    twice.add(prefix)
+                    kept.add(refusal(network.place, f"{prefix} has another origin at {other[1].place}: a prefix has "
+                                                    "one"))
+        if reasons is None:
+            kept.refuse()
+        return {prefix: found[prefix] for prefix in sorted(set(found) - twice)}
 
     def networks(self):
         """Each line that announces a prefix."""

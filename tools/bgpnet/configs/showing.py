@@ -2,9 +2,8 @@
 from bgpnet.configs import steps
 from bgpnet.configs.inside import CLIENT, EXTERNAL
 from bgpnet.configs.sessions import dotted
-from bgpnet.network import Prefix
 from bgpnet.program import Refusal
-from bgpnet.reports import objects_of
+from bgpnet.reports import best_paths, objects_of
 
 CAME = {EXTERNAL: "eBGP", CLIENT: "iBGP of a client"}
 
@@ -61,20 +60,16 @@ def reported(routers, text, name):
     ids = {dotted(router.router_id.name): number for number, router in routers.routers.items()}
     hops = {}
     for said in objects_of(text, name):
-        number = ids.get(said.get("routerId")) if isinstance(said, dict) else None
+        number = ids.get(str(said.get("routerId"))) if isinstance(said, dict) else None
         if number is None or not isinstance(said.get("routes"), dict):
             raise Refusal(f"{name}: no `show bgp ipv4 unicast json` of a router of these configurations")
         peers = {end.neighbor.key: peer for peer, end in routers.ends[number].items()}
-        for word, paths in said["routes"].items():
-            best = [path for path in paths if isinstance(path, dict) and path.get("bestpath")]
-            if best:
-                key = best[0].get("peerId")
-                if key in (None, "(unspec)", "0.0.0.0"):
-                    hops[number, Prefix.read(word)] = None
-                elif key in peers:
-                    hops[number, Prefix.read(word)] = peers[key]
-                else:
-                    raise Refusal(f"{name}: {routers.label(number)} {word}: {key} is no neighbor of it here")
+        for prefix, path in best_paths(said["routes"], name):
+            key = path.get("peerId")
+            is_own = key in (None, "(unspec)", "0.0.0.0")
+            if not is_own and not (isinstance(key, str) and key in peers):
+                raise Refusal(f"{name}: {routers.label(number)} {prefix}: {key} is no neighbor of it here")
+            hops[number, prefix] = None if is_own else peers[key]
     found, behind = {}, {(number, prefix): router for router in routers.behind for prefix in router.networks
                          for number in routers.ends[router.number]}
     for router in routers.behind:

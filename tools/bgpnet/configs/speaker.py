@@ -13,10 +13,10 @@ class Speaker:
     there, and to one of FRR `reach`, the next hops that it reaches (configs/igp.py), by `interfaces` and what `igp` says.
     `language` names the software that reads it, `is_origins` says that it is none but stands behind several routers
     that announce the same prefixes, `included` are the paths of files that the file includes,
-    `keeps_routes` is whether it keeps the routes of a peer that restarts, and `is_whole` whether all lines of its file
-    are taken."""
+    `keeps_routes` is whether it keeps the routes of a peer that restarts, `is_whole` whether all lines of its file are
+    taken, and `is_sound` whether nothing of it is refused, so that what it makes of routes is known."""
 
-    language, included, keeps_routes, is_whole, is_origins = None, frozenset(), False, True, False
+    language, included, keeps_routes, is_whole, is_sound, is_origins = None, frozenset(), False, True, True, False
 
     def __init__(self, name):
         self.name, self.notes, self.end = name, [], None

@@ -1,9 +1,10 @@
 """The order of a router's ways where an AS of the set has several routers: the decision process of FRR, step by step."""
+from functools import partial
 from itertools import permutations
 
 from bgpnet.configs.inside import EXTERNAL
-from bgpnet.configs.order import Tie, coarse_key, compares_metric, metric
-from bgpnet.configs.pairs import in_order, refuse_circle, shortest_circle
+from bgpnet.configs.order import Tie, coarse_key, compares_all, compares_metric, metric
+from bgpnet.configs.pairs import groups_of, in_order, refuse_circle, shortest_circle
 from bgpnet.configs.routes import ORIGINS
 from bgpnet.configs.sessions import dotted
 
@@ -89,13 +90,9 @@ class Order:
 
     def __init__(self, routers, prefix, number, ways):
         self.set, self.prefix, self.router, self.circles = routers, prefix, routers.routers[number], []
-        self.left_out = set()
-        groups = {}
-        for way in ways:
-            groups.setdefault(coarse_key(self.router, way), []).append(way)
-        self.ways, self.ties = [], []
-        for key in sorted(groups):
-            self.ways += self.sorted_group(groups[key])
+        self.left_out, self.ties = set(), []
+        self.ways = [way for group in groups_of(ways, partial(coarse_key, self.router))
+                     for way in self.sorted_group(group)]
 
     def key(self, way):
         """What is compared behind MED of all ways, with their own numbers at last."""
@@ -104,15 +101,13 @@ class Order:
     def sorted_group(self, group):
         """Ways that are alike up to the origin."""
         group = sorted(group, key=self.key)
-        firsts = {way.route.path[:1] for way in group}
-        if len(firsts) == 1 or self.router.option("bgp always-compare-med"):
+        is_compared = compares_all(self.router, group)
+        if is_compared is None:
+            return self.by_pairs(group)
+        if is_compared:
             group = sorted(group, key=lambda way: metric(self.router, way.route))
-            self.note_ties(group, True)
-            return group
-        if len({(way.route.path[:1], metric(self.router, way.route)) for way in group}) == len(firsts):
-            self.note_ties(group, False)
-            return group
-        return self.by_pairs(group)
+        self.note_ties(group, is_compared)
+        return group
 
     def note_ties(self, group, by_metric, above=None):
         """Keeps which ways of a group FRR tells apart by what it selected before: those that are alike up to the age.

@@ -15,6 +15,9 @@ LENGTH = re.compile(r"\d|[12]\d|3[012]")
 OPTION = re.compile(r"\[([^][]*)\]")
 CHOICE = re.compile(r"<([^<>]*)>")
 
+# Of how many lines it is kept which command each is.
+MOST_KNOWN = 65536
+
 # A command: its syntax, what is done of it, and why it is refused where it is.
 Command = namedtuple("Command", "syntax action why")
 # A line that is a command: its words, keywords in full, and the command.
@@ -97,8 +100,10 @@ class Commands:
             for tokens in variants(command.syntax):
                 self.first.setdefault(tokens[0], []).append((tokens, command))
 
+    @lru_cache(maxsize=MOST_KNOWN)
     def find(self, words):
-        """The command that a line of words is, or None; an ambiguous or a cut line raises Unreadable."""
+        """The command that a line of words is, or None; an ambiguous or a cut line raises Unreadable. Lines that stand
+        in many files are looked for once."""
         found, is_cut = [], False
         for first, commands in self.first.items():
             if fit(first, words[0]) is None:
@@ -120,8 +125,8 @@ class Commands:
             wholes = sorted({" ".join(whole) for whole in shortened})
             raise Unreadable(f"the command is ambiguous: {', '.join(wholes)}")
         tokens, command = found[0]
-        full = [token if how in (EXACT, SHORTENED) else word for token, word, how in zip(tokens, words, best)]
-        return Match(full + words[len(tokens):], command)
+        full = (token if how in (EXACT, SHORTENED) else word for token, word, how in zip(tokens, words, best))
+        return Match((*full, *words[len(tokens):]), command)
 
     @staticmethod
     def fits(tokens, words):

@@ -14,7 +14,7 @@ from bgpnet.configs.routes import ORIGINS, Denial
 from bgpnet.configs.sessions import dotted
 from bgpnet.configs.showing import ending, inside_attributes, path_words, reported, with_steps
 from bgpnet.configs.syntax import number_of, prefix_of
-from bgpnet.network import MOST_PATHS, Named, Prefix, path_text, routes_of, telling, words_of
+from bgpnet.network import MOST_PATHS, Named, Prefix, lines_text, path_text, routes_of, telling, words_of
 from bgpnet.program import Refusal
 from bgpnet.reports import is_json, read_report
 
@@ -113,7 +113,7 @@ def explain(ranks, word, prefix, names):
 def play(program, ranks, most=None, lines=None):
     """Whether the program settles, and the routes in which it ends, by router and prefix."""
     lines = lines or network_lines(ranks, most)[0]
-    said = program.answer(["play"], "".join(line + "\n" for line in lines + schedule_lines(lines)), "the network")
+    said = program.answer(["play"], lines_text(lines + schedule_lines(lines)), "the network")
     return said[0].endswith("settled"), routes_of(said[said.index("now") + 1:])
 
 

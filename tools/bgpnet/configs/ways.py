@@ -1,12 +1,12 @@
 """Follows every way from an origin, through the policy of each router on it."""
 from collections import namedtuple
 
-from bgpnet.configs.places import refusal
+from bgpnet.configs.places import Passed, refusal
 from bgpnet.configs.routes import Denial
 from bgpnet.network import LONGEST_PATH
 
-# How many times a route is told and judged for all prefixes of a set.
-MOST_STEPS = 1_000_000
+# How many times a route is told and judged for all prefixes of a set, and of one of which something is refused.
+MOST_STEPS, MOST_BESIDE = 1_000_000, 100_000
 
 # A way that a route took, from the router that has it to the origin, with its attributes there.
 Way = namedtuple("Way", "path route")
@@ -32,7 +32,8 @@ class Follower:
 
     def alike(self, prefix, router, network):
         """What tells prefixes apart: how the origin announces them, and what the policies of all routers ask."""
-        return router.number, router.announced(network), tuple(one.asked_of(prefix) for one in self.set.routers.values())
+        return router.number, router.announced(network), tuple(
+            one.asked_of(prefix) for one in self.set.routers.values() if one.is_sound)
 
     def ways(self, prefix, router, network):
         """The ways of each router for a prefix that its origin announces."""
@@ -59,6 +60,8 @@ class Follower:
     def step(self, prefix, way, peer, own):
         """The way on to a peer, or None where it is denied, or refused."""
         self.steps += 1
+        if self.set.reasons and self.steps > MOST_BESIDE:
+            raise Passed
         if self.steps > MOST_STEPS:
             raise refusal(self.set.routers[way.path[0]].place,
                           f"more than {MOST_STEPS} steps of ways were followed, and there are more: --prefix takes some "
@@ -98,4 +101,4 @@ class Follower:
         way = Way(path[-1:], router.own_route(router.networks[prefix], {}))
         for at in reversed(range(len(path) - 1)):
             way = Way(path[at:], crossed(self.set, prefix, way, path[at]))
-        return way.route.notes["excluded", path[0]][-1]
+        return way.route.notes["excluded", self.set.routers[path[0]].asn][-1]

@@ -160,7 +160,7 @@ class State {
     return recorded[teller] >= at && recorded[hearer] !== undefined;
   }
 
-  // What a router knows, in the lines of `bgpnet why`, but for incarnations and outboxes.
+  // What a router knows, in the lines of `bgpnet why`, but for incarnations, outboxes and timers.
   why(router) {
     const lines = [`router ${router}`];
     for (const peer of this.run.peers[router]) lines.push(`peer ${peer} ${this.session[router][peer]}`);

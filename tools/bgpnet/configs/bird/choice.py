@@ -7,7 +7,7 @@ from itertools import combinations
 from bgpnet.configs.bird.evaluate import UNREACHABLE
 from bgpnet.configs.communities import STALE
 from bgpnet.configs.lists import mask_of
-from bgpnet.configs.pairs import in_order, refuse_circle, shortest_circle
+from bgpnet.configs.pairs import groups_of, in_order, refuse_circle, shortest_circle
 
 MISSING_ORIGIN = 2
 # The distance to a next hop that an own route covers, which says none; to one that is not reached it is 0.
@@ -24,7 +24,7 @@ class Order:
 
     def __init__(self, routers, prefix, router, ways):
         self.set, self.prefix, self.router, self.ties = routers, prefix, router, []
-        self.ways = self.sorted(list(ways))
+        self.ways = [way for group in groups_of(ways, self.front_key) for way in self.sorted_group(group)]
 
     def front_key(self, way):
         """What is compared first: preference, whether the next hop is reached, whether the route outlived its
@@ -80,12 +80,6 @@ class Order:
             pairs.append((self.metric(a), self.metric(b)))
         pairs += [(self.distance(a), self.distance(b)), (self.id_of(one), self.id_of(other))]
         return next((left < right for left, right in pairs if left != right), False)
-
-    def sorted(self, ways):
-        groups = {}
-        for way in ways:
-            groups.setdefault(self.front_key(way), []).append(way)
-        return [way for key in sorted(groups) for way in self.sorted_group(groups[key])]
 
     def is_plain(self, group):
         """Whether all of a group is compared by the same things."""

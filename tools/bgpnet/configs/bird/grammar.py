@@ -135,13 +135,21 @@ class Terms(Literals):
         return found
 
     def attribute(self):
+        found = self.named_attribute()
+        if found.args[0] in attributes.NOT_READ:
+            self.refuse(f"{found.args[0]}: the interface of a route is not known here", found.place)
+        return found
+
+    def named_attribute(self):
+        """The attribute that the next word names, wherever it stands."""
         token = self.next()
-        if token.value in attributes.REFUSED:
-            self.refuse(f"{token.value}: {attributes.REFUSED[token.value]}", token.place)
-        if token.value in attributes.NOT_READ:
-            self.refuse(f"{token.value}: the interface of a route is not known here", token.place)
+        self.refuse_attribute(token)
         type = attributes.DYNAMIC.get(token.value) or attributes.STATIC[token.value][0]
         return Node("attribute", [token.value], type, token.place)
+
+    def refuse_attribute(self, token):
+        if token.value in attributes.REFUSED:
+            self.refuse(f"{token.value}: {attributes.REFUSED[token.value]}", token.place)
 
     def named(self, token):
         """A constant, a variable, an attribute of one's own, or the call of a function."""

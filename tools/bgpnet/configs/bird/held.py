@@ -1,10 +1,14 @@
 """A route in the table of a router of BIRD, as its filters see it."""
+from dataclasses import dataclass, field
+from typing import Any, Dict, FrozenSet, Optional
+
 from bgpnet.configs.bird.values import BGP, EMPTY, STATIC, Address, Address6, Clist, Enum, Lclist, Pair, Path, Triple
 from bgpnet.configs.routes import Route
 
 OWN_STANDING, STANDING = 200, 100
 
 
+@dataclass(eq=False)
 class Held(Route):
     """A route with what a router of BIRD keeps of it beside the attributes of BGP.
 
@@ -14,21 +18,20 @@ class Held(Route):
     route's destination, `more` has the attributes that stay here. `emptied` names the empty lists that are defined,
     `cleared` those that will be as soon as the route is in the table."""
 
-    __slots__ = ("standing", "is_marked", "sets", "is_unset", "near", "proto", "kind", "more", "emptied", "cleared")
-
-    def __init__(self, **attributes):
-        super().__init__(**attributes)
-        self.standing, self.is_marked, self.sets, self.near, self.proto = STANDING, False, 0, None, ""
-        self.kind, self.more, self.is_unset = None, {}, False
-        self.emptied = self.cleared = frozenset()
+    standing: int = STANDING
+    is_marked: bool = False
+    sets: int = 0
+    is_unset: bool = False
+    near: Any = None
+    proto: str = ""
+    kind: Optional[int] = None
+    more: Dict[str, Any] = field(default_factory=dict)
+    emptied: FrozenSet[str] = frozenset()
+    cleared: FrozenSet[str] = frozenset()
 
     def copy(self):
-        found = Held(path=self.path, origin=self.origin, med=self.med, has_med=self.has_med,
-                     preference=self.preference, has_preference=self.has_preference, communities=self.communities,
-                     large=self.large, customer=self.customer, notes=None if self.notes is None else dict(self.notes))
-        found.standing, found.is_marked, found.sets, found.near = self.standing, self.is_marked, self.sets, self.near
-        found.proto, found.kind, found.more, found.emptied = self.proto, self.kind, dict(self.more), self.emptied
-        found.cleared = self.cleared
+        found = super().copy()
+        found.more = dict(self.more)
         return found
 
     def attributes(self):

@@ -1,4 +1,6 @@
 """What a file's terms and statements are made of, and the names that it defines."""
+from collections import namedtuple
+
 from bgpnet.configs.places import refusal
 
 
@@ -24,17 +26,16 @@ class Node:
                 queue += part
 
     def walk(self):
-        """This node and all below it."""
-        yield self
-        for part in self.inner():
-            yield from part.walk()
+        """This node and all below it, each above its own."""
+        left = [self]
+        while left:
+            node = left.pop()
+            yield node
+            left += reversed(list(node.inner()))
 
 
-class Symbol:
-    """A name: its kind, what it stands for, its type where it has a value, and where it is defined."""
-
-    def __init__(self, name, kind, value, type, place):
-        self.name, self.kind, self.value, self.type, self.place = name, kind, value, type, place
+# A name: its kind, what it stands for, its type where it has a value, and where it is defined.
+Symbol = namedtuple("Symbol", "name kind value type place")
 
 
 class Routine:

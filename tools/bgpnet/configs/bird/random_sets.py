@@ -2,6 +2,7 @@
 read, and gadgets whose ends are several or none."""
 from bgpnet.configs import random_networks, random_sets
 from bgpnet.configs.bird.random_filters import Filters
+from bgpnet.network import lines_text
 
 LIKED = {"disagree": {1: 2, 2: 1}, "bad": {1: 2, 2: 3, 3: 1}, "good": {1: 2, 2: 3}, "wedgie": {2: 1, 1: 2}}
 
@@ -155,7 +156,7 @@ class Text:
                  f"router id {self.maker.router_id(self.place)};", "protocol device { }", *self.filters.lines(), *parts]
         if draw.chance(0.1):
             lines.insert(3, "protocol kernel { ipv4 { export none; }; }")
-        return "".join(line + "\n" for line in lines)
+        return lines_text(lines)
 
 
 def make(seed, is_mixed):

@@ -7,7 +7,7 @@ from bgpnet.configs.bird.roles import denied_in, denied_out, marked_in, marked_o
 from bgpnet.configs.communities import LOCAL_AS, NO_ADVERTISE, NO_EXPORT, STALE, community_text, sorted_set
 from bgpnet.configs.places import refusal
 from bgpnet.configs.router import Line, Neighbor
-from bgpnet.configs.routes import ORIGINS, Denial, Route
+from bgpnet.configs.routes import ORIGINS, Denial, Route, denied_by
 from bgpnet.configs.speaker import Speaker
 
 # A prefix that a router announces: the protocol, what kind of route it is, and the statements in its braces.
@@ -273,9 +273,7 @@ class Router(Speaker):
             return Denial(neighbor.place, "the neighbor's own route is the best: it is not told it")
         stopped = STOPPED.intersection(held.communities)
         if stopped and held.near and neighbor.option("interpret communities", True):
-            said = held.notes and held.notes.get("communities")
-            by = f" by {', '.join(said)}" if said else ""
-            return Denial(neighbor.place, f"community {community_text(min(stopped))}{by}")
+            return denied_by(min(stopped), held, neighbor.place)
         denial = denied_out(neighbor, held)
         if denial:
             return denial

@@ -258,21 +258,15 @@ class Statements(Terms):
         self.expect(";")
         return Node("unset", [token.value], None, place)
 
-    def refuse_attribute(self, token):
-        if token.value in attributes.REFUSED:
-            self.refuse(f"{token.value}: {attributes.REFUSED[token.value]}", token.place)
-
     def of_attribute(self):
         """A statement that begins with an attribute."""
-        token = self.next()
-        self.refuse_attribute(token)
-        type = attributes.DYNAMIC.get(token.value) or attributes.STATIC[token.value][0]
+        own = self.named_attribute()
         if self.take("="):
-            return self.assigned(Node("attribute", [token.value], type, token.place))
-        if token.value in attributes.STATIC:
+            return self.assigned(own)
+        if own.args[0] in attributes.STATIC:
             self.unexpected("'='")
         self.expect(".")
-        return self.changed(token, type)
+        return self.changed(own)
 
     def assigned(self, target):
         """What stands behind `=`: the target takes the value of a term."""
@@ -285,21 +279,20 @@ class Statements(Terms):
         self.expect(";")
         return Node("set " + target.op, [target.args[0], target.type, term, False], None, target.place)
 
-    def changed(self, token, type):
-        """`.empty`, or an operator that changes a list."""
+    def changed(self, own):
+        """`.empty`, or an operator that changes a list that is an attribute."""
         word = self.next()
         if word.value == "empty":
-            if type not in EMPTY:
-                self.refuse(f"'{token.value}' can't be emptied", token.place)
-            term = self.constant(EMPTY[type], token.place)
+            if own.type not in EMPTY:
+                self.refuse(f"'{own.args[0]}' can't be emptied", own.place)
+            term = self.constant(EMPTY[own.type], own.place)
         elif word.kind == "word" and word.value in CHANGES:
-            own = Node("attribute", [token.value], type, token.place)
             term = self.operation(CHANGES[word.value], [own, self.in_brackets()], word.place)
         else:
             self.refuse(f"'.{word.value}' stands where BIRD takes .prepend, .add, .delete, .filter or .empty",
                         word.place)
         self.expect(";")
-        return Node("set attribute", [token.value, type, term, word.value != "empty"], None, token.place)
+        return Node("set attribute", [own.args[0], own.type, term, word.value != "empty"], None, own.place)
 
     def of_name(self):
         """A statement that begins with a name: a variable or an attribute is set, or a function is called."""
