@@ -5,10 +5,12 @@
 
 NETWORK is an input of `bgpnet run`; where it has a line `schedule`, what stands from there on is left
 out. It is run with TURNS chores a router (20000) and SNAPSHOTS snapshots
-(20), on 1, 2 and 4 processors, each time RUNS times (5). `play` starts every session and originates every
-prefix, then plays ROUNDS rounds (20000) with a snapshot behind them, on one processor. Of each the least
-and the greatest wall time are printed, and how many of the runs settled."""
+(20), on 1, 2 and 4 processors, by turns, each RUNS times (5). `play` starts every session and originates
+every prefix, then plays ROUNDS rounds (20000) with a snapshot behind them, on one processor. Of each the
+least, the median and the greatest wall time are printed, what share of that of `play` the median is, the
+median of the processor time, and how many of the runs settled."""
 import os, sys, tempfile, time
+from statistics import median
 
 here = os.path.dirname(os.path.abspath(__file__))
 program = os.path.join(os.path.dirname(here), "crates/bgpnet/out/bgpnet")
@@ -41,9 +43,11 @@ def schedule_of(network, rounds):
     lines += [f"rounds {rounds}", f"snapshot {least} 1", f"rounds {rounds}"]
     return "\n".join(lines) + "\n"
 
-def show(name, times, settled):
+def show(name, times, settled, played):
     walls, used = [wall for wall, _ in times], [processor for _, processor in times]
-    print(f"{name:24} {min(walls):8.3f} s to {max(walls):8.3f} s wall, {min(used):8.3f} s processor, {settled} of {len(times)} settled")
+    middle = median(walls)
+    print(f"{name:10} {min(walls):6.3f} s to {max(walls):6.3f} s wall, median {middle:6.3f} s, {middle / played:5.2f} of play,"
+          f" {median(used):6.3f} s processor, {settled} of {len(times)} settled")
 
 def main():
     if len(sys.argv) < 2:
@@ -56,19 +60,17 @@ def main():
         text, played, out = (os.path.join(folder, name) for name in ("network", "played", "out"))
         open(text, "w").write(network)
         open(played, "w").write(network.rstrip("\n") + "\n" + schedule_of(network, rounds))
-        times, settled = [], 0
-        for _ in range(runs):
-            times.append(timed(["play"], played, out, all_processors[-1:]))
-            settled += open(out).read().startswith("snapshot 1 settled\n")
-        show("play on 1", times, settled)
+        jobs = [("play on 1", ["play"], played, 1, "snapshot 1 settled\n")]
         for count in (1, 2, 4):
-            if count > len(all_processors):
-                continue
-            times, settled = [], 0
-            for _ in range(runs):
+            if count <= len(all_processors):
                 words = ["run", "--turns", str(turns), "--snapshots", str(snapshots)]
-                times.append(timed(words, text, out, all_processors[-count:]))
-                settled += open(out).read().startswith("route ")
-            show(f"run on {count}", times, settled)
+                jobs.append((f"run on {count}", words, text, count, "route "))
+        times, settled = [[] for _ in jobs], [0 for _ in jobs]
+        for _ in range(runs):
+            for at, (_, words, given, count, begins) in enumerate(jobs):
+                times[at].append(timed(words, given, out, all_processors[-count:]))
+                settled[at] += open(out).read().startswith(begins)
+        for at, job in enumerate(jobs):
+            show(job[0], times[at], settled[at], median(wall for wall, _ in times[0]))
 
 main()

@@ -1,0 +1,16 @@
+mod Rows
+mod Peaks
+mod Drafts
+mod Numbers
+mod Weights
+mod Jobs
+mod Steps
+mod Links
+mod Stretch
+mod Worlds
+mod Idling
+mod Heard
+mod Routes
+mod Pair
+mod Transfer
+mod Obeyed
