@@ -46,12 +46,12 @@ ignored    graceful restart wait NUM
 
 # What every protocol takes.
 PROTOCOL = """
-disabled   disabled BOOL
+value      disabled BOOL
 ignored    description TEXT
 ignored    debug REST
 ignored    mrtdump REST
 ignored    tx <class|dscp|priority> NUM
-own_id     router id ADDRESS
+value      router id ADDRESS
 vrf        vrf REST
 """
 
@@ -77,8 +77,8 @@ if_on      rr client BOOL
 reflector  rr cluster id REST
 own        allow local as [NUM]
 confederation confederation REST
-password   password TEXT
-ttl        ttl security BOOL
+value      password TEXT
+value      ttl security BOOL
 source     source address ADDRESS
 warned     bfd REST
 interface  interface REST

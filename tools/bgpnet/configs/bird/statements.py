@@ -30,11 +30,16 @@ class Statements(Terms):
         """A filter from behind its name on, or one without a name."""
         routine = Routine(kind, name, place)
         self.enter(routine)
+        self.read_body(routine)
+        return routine
+
+    def read_body(self, routine):
+        """The braces of a filter or a function, with variables by the old way in front: these are undefined."""
         while self.type_ahead():
-            self.declared_before(routine)
+            self.variable(self.type())
+            self.expect(";")
         routine.body = self.block(False)
         self.leave()
-        return routine
 
     def where(self):
         """`where TERM`, as a filter."""
@@ -62,10 +67,7 @@ class Statements(Terms):
             self.variable(type)
             routine.parameters.append(type)
         self.expect(")")
-        while self.type_ahead():
-            self.declared_before(routine)
-        routine.body = self.block(False)
-        self.leave()
+        self.read_body(routine)
         return routine
 
     def enter(self, routine):
@@ -75,11 +77,6 @@ class Statements(Terms):
     def leave(self):
         self.scopes.levels.pop()
         self.routine = self.above
-
-    def declared_before(self, routine):
-        """A variable by the old way, in front of the braces: it is undefined."""
-        self.variable(self.type())
-        self.expect(";")
 
     # ---- types and variables
 
@@ -147,8 +144,8 @@ class Statements(Terms):
     def statement(self):
         token = self.token
         words = {"{": self.block, "if": self.conditional, "case": self.switch, "for": self.loop,
-                 "return": self.returned, "accept": self.ending, "reject": self.ending, "print": self.printed,
-                 "printn": self.printed, "unset": self.unset}
+                 "return": self.returned, "accept": self.ending, "reject": self.ending, "print": self.ending,
+                 "printn": self.ending, "unset": self.unset}
         if token.kind in ("word", "sign") and token.value in words:
             return words[token.value]()
         if token.kind == "word" and (token.value in attributes.STATIC or token.value in attributes.DYNAMIC):
@@ -236,10 +233,6 @@ class Statements(Terms):
     def ending(self):
         token = self.next()
         return Node(token.value, [self.terms()], None, token.place)
-
-    def printed(self):
-        token = self.next()
-        return Node("print", [self.terms()], None, token.place)
 
     def returned(self):
         place = self.next().place
