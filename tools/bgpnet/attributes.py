@@ -30,13 +30,13 @@ class Segment(NamedTuple):
 
 
 class Update:
-    """The parts of an UPDATE's body: whether prefixes are withdrawn and announced, and the value of each attribute, by
-    code and in the order of the message. `struct.error` or `IndexError` where a part is not whole."""
+    """The parts of an UPDATE's body: the octets of the prefixes that are withdrawn and announced, and the value of each
+    attribute, by code and in the order of the message. `struct.error` or `IndexError` where a part is not whole."""
 
     def __init__(self, body: Octets) -> None:
         size = struct.unpack_from(">H", body)[0]
         end = 4 + size + struct.unpack_from(">H", body, 2 + size)[0]
-        self.withdraws, self.announces = size > 0, len(body) > end
+        self.withdrawn, self.announced = body[2:2 + size], body[end:]
         self.attributes = attributes_of(body, 4 + size, end)
 
 
@@ -60,11 +60,11 @@ def remark_of(body: Octets, width: int, identified: Collection[str] = ()) -> str
     identifiers."""
     update = Update(body)
     attributes = update.attributes
-    if not update.withdraws and not update.announces:
+    if not update.withdrawn and not update.announced:
         ended = family_of_end(attributes)
         if ended:
             return f"End-of-RIB {ended}"
-    said = {AS_PATH, NEXT_HOP} if update.announces else set()
+    said = {AS_PATH, NEXT_HOP} if update.announced else set()
     if attributes.get(ORIGIN) == b"\0":
         said.add(ORIGIN)
     codes = sorted((code for code in attributes if code not in said), key=lambda code: code <= NEXT_HOP)

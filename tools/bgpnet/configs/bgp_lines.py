@@ -107,7 +107,8 @@ class BgpLines(Blocks):
         if ":" in key:
             self.sixth.setdefault(key, (self.place, router.activates))
             return
-        remote, address = Line(self.remote_of(asn), self.place), address_of(key)
+        number = router.asn if asn == "internal" else asn if asn == "external" else int(asn)
+        remote, address = Line(number, self.place), address_of(key)
         if address is None:
             if key not in router.groups:
                 self.refuse(f"neighbor {key}: {NOT_TAKEN}: no line above says that it is a group")
@@ -119,10 +120,6 @@ class BgpLines(Blocks):
         elif found.group and found.group.remote:
             self.refuse(f"neighbor {key} remote-as {asn}: {NOT_TAKEN}: its group says {found.group.remote.name}")
         found.remote, found.place = remote, self.place
-
-    def remote_of(self, word):
-        """The AS number that a word of `remote-as` says, or `external`."""
-        return self.router.asn if word == "internal" else word if word == "external" else int(word)
 
     def do_flag(self, words, line):
         """What a neighbor has or has not, by the word of its line."""

@@ -14,11 +14,6 @@ READ = 8, 4  # the version whose language this is
 MOST_HOST = 255
 
 
-def cut_lines(text):
-    """The lines of a text, each with its number, without a CR at its end."""
-    return [(number, line.rstrip("\r")) for number, line in enumerate(text.split("\n"), 1)]
-
-
 # What never stands inside an address family.
 OUTSIDE = ("router", "address-family", "route-map", "interface", "end")
 
@@ -36,11 +31,11 @@ class Blocks:
         self.entry, self.foreign, self.interface, self.indent = None, None, None, None
         self.reasons, self.of_maps, self.lost, self.sixth = Reasons(), {}, set(), {}
         is_above = True
-        for number, line in cut_lines(text):
+        for number, line in enumerate(text.split("\n"), 1):
             is_above = is_above and line.strip() in PRINTED_ABOVE
             self.place = Place(name, number)
             if not is_above:
-                self.try_to_obey(line)
+                self.try_to_obey(line.rstrip("\r"))
         self.judge_sixth()
         self.judge_maps()
 

@@ -106,7 +106,7 @@ class PolicyLines(Blocks):
 
     def do_paths(self, words, line):
         permits, number, _ = self.numbered(words, 4)
-        text = self.rest_of(line, 5 if number is None else 7)
+        text = " ".join(line.split()[5 if number is None else 7:])
         found = self.list_of("as-path", words[3])
         self.add_once(found, number, Entry(permits, self.expression(text, path_expression, line), text, self.place))
 
@@ -114,11 +114,6 @@ class PolicyLines(Blocks):
         """Adds an entry, unless one says the same: FRR drops it in silence."""
         if found.double(entry.permits, entry.text) is None:
             found.add(found.next_number() if number is None else number, entry)
-
-    @staticmethod
-    def rest_of(line, count):
-        """What stands behind so many words of a line, its words one blank apart."""
-        return " ".join(line.split()[count:])
 
     def do_communities(self, words, line):
         kind = words[1][:-len("-list")]

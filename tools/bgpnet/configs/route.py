@@ -6,6 +6,7 @@ from bgpnet.configs.lists import block_fits, path_fits
 from bgpnet.configs.routes import MOST, ORIGINS, Denial, Route, denied_by
 
 OWN_WEIGHT = 32768
+POLICIES = ("distribute-list", "prefix-list", "filter-list", "route-map")
 
 
 @lru_cache(maxsize=65536)
@@ -206,7 +207,7 @@ def mapped(router, neighbor, direction, prefix, route):
 
 def without_policy(router, neighbor, direction):
     """The denial of a session without a policy, where one is required, or None."""
-    if router.requires_policy and not neighbor.has_policy(direction):
+    if router.option("bgp ebgp-requires-policy") and not any(neighbor.policy(kind, direction) for kind in POLICIES):
         return Denial(neighbor.place, f"no policy {direction} (bgp ebgp-requires-policy)")
     return None
 

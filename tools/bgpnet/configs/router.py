@@ -12,7 +12,6 @@ Line = namedtuple("Line", "name place")
 # A network that a router originates, with the default of local preference that stood above its line.
 Network = namedtuple("Network", "prefix map_name place preference")
 
-POLICIES = ("distribute-list", "prefix-list", "filter-list", "route-map")
 SENT = {"both": ("standard", "extended"), "all": ("standard", "extended", "large")}
 
 
@@ -40,9 +39,6 @@ class Neighbor:
     def policy(self, kind, direction):
         found = self.policies.get((kind, direction))
         return found if found is not None or self.group is None else self.group.policies.get((kind, direction))
-
-    def has_policy(self, direction):
-        return any(self.policy(kind, direction) for kind in POLICIES)
 
     def weight_line(self):
         line = self.line("weight")
@@ -91,10 +87,6 @@ class Router(Speaker):
     def option(self, name):
         line = self.options.get(name)
         return bool(line and line.name)
-
-    @property
-    def requires_policy(self):
-        return self.option("bgp ebgp-requires-policy")
 
     # ---- what a set asks
 
