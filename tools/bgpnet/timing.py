@@ -4,10 +4,10 @@ from __future__ import annotations
 
 from collections import deque
 from dataclasses import dataclass
-from typing import Iterable, List, Optional, Sequence, Tuple
+from typing import List, Optional, Sequence, Tuple
 
-from bgpnet.live import Preference
-from bgpnet.network import LONGEST_PATH, Link, Network, Path, Prefix, starts
+from bgpnet.live import Chooser
+from bgpnet.network import Link, Network, Path, Prefix, starts
 from bgpnet.tracing import rest_bound
 
 # Of each way of a link, what its end heard last, and what is on its way; and the path of each router.
@@ -17,22 +17,6 @@ End = Tuple[Tuple[int, Path], ...]
 Before = Tuple[Optional[State], Optional[Link], List[Link]]
 # How many states of routers and messages are looked at.
 MOST_STATES = 15_000
-
-
-class Chooser:
-    """What a router chooses of what its peers said."""
-
-    def __init__(self, network: Network, prefix: Prefix) -> None:
-        self.origin = network.origins[prefix]
-        self.preferences = {router: Preference(network, router, prefix) for router in network.routers}
-
-    def best(self, router: int, heard: Iterable[Path]) -> Path:
-        """The best of the paths on which a router hears of the prefix, or none."""
-        if router == self.origin:
-            return (router,)
-        own = self.preferences[router]
-        found = [(router, *path) for path in heard if path and router not in path and len(path) < LONGEST_PATH]
-        return min(filter(own.permits, found), key=own.key, default=())
 
 
 class Hearings:
