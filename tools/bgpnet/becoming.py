@@ -25,8 +25,8 @@ def check_alike(network: Network, other: Network, name: str) -> None:
 
 
 def end_of(network: Network, prefix: Prefix, routes: RouteDict, seed: int = 0) -> End | None:
-    """The paths in which the routers of a network rest that begins in the routes of another one, or None. Those that they
-    may not use, or that no peer has, are lost at once; then one router after the other takes the best that its peers
+    """The paths in which a network rests that begins in the routes of another one, or None. Those that routers
+    may not use, or that no peer has, are lost at once; then one after the other takes the best that its peers
     have, with a seed in a random order, else in that of their numbers."""
     draw, chooser = random.Random(seed), Chooser(network, prefix)
     chosen: dict[int, Path] = {
