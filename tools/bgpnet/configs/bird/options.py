@@ -97,8 +97,7 @@ policy     <import|export> REST
 
 BGP_CHANNEL = CHANNEL + """
 ignored    <mandatory|import table|export table|validate|extended next hop> BOOL
-ignored    graceful restart BOOL
-ignored    long lived graceful restart BOOL
+ignored    <graceful restart|long lived graceful restart> BOOL
 ignored    long lived stale time NUM
 ignored    next hop self ibgp
 value      next hop self <ebgp|BOOL>
