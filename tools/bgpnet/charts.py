@@ -411,19 +411,14 @@ class Chart:
                 self.owner = None  # what follows stands below it
 
     def event(self, event: Event) -> None:
-        if event.words[0] == "put":
-            self.put(event)
-        elif event.words[0] == "take":
-            self.take(event)
-        elif event.words[0] == "handle":
-            self.handle(event)
-        elif event.words[0] == "advertise":
-            self.tells(event)
-        elif self.shows(event):
-            if event.words[0] in COMMANDS and not (self.shown.updates and event.words[0] == "start"):
-                self.command(event)
-            elif event.words[0] == "tick":
-                self.seconds[event.words[1]] = self.seconds.get(event.words[1], 0) + 1
+        word = event.words[0]
+        act = {"put": self.put, "take": self.take, "handle": self.handle, "advertise": self.tells}.get(word)
+        if act:
+            act(event)
+        elif self.shows(event) and word in COMMANDS and not (self.shown.updates and word == "start"):
+            self.command(event)
+        elif self.shows(event) and word == "tick":
+            self.seconds[event.words[1]] = self.seconds.get(event.words[1], 0) + 1
         if self.shows(event):
             self.said(event)
 

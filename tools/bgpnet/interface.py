@@ -61,11 +61,6 @@ def read_file(path: str) -> str:
     return read_octets(path).decode("utf-8", "surrogateescape")
 
 
-def whole_lines(text: str) -> str:
-    """A text whose last line has an end."""
-    return text if text.endswith("\n") or not text else text + "\n"
-
-
 @dataclass(frozen=True)
 class Picture:
     """A picture, as the text of an SVG file. A notebook shows it."""
@@ -93,7 +88,8 @@ class Network:
     facts: texts.Network = field(init=False, repr=False, compare=False)
 
     def __post_init__(self) -> None:
-        object.__setattr__(self, "text", whole_lines(self.text))
+        if not self.text.endswith("\n") and self.text:
+            object.__setattr__(self, "text", self.text + "\n")
         facts, section, _ = texts.read_network(self.program, as_octets(self.text), self.name)
         if section:
             raise Refusal(f"{self.name}: behind the network stands a line `{section}`: read_{section} takes both")

@@ -126,7 +126,7 @@ class Outcome:
     def __init__(self, player, as_json):
         self.player, self.as_json = player, as_json
         self.losing, self.moving, self.other, self.unconfirmed = [], [], [], False
-        self.objects, self.several, self.unsafe, self.rows, self.known = [], [], [], {}, {}
+        self.objects, self.several, self.rows, self.known = [], [], {}, {}
 
     def see(self, title, state, last, place):
         """What is seen of a state, as JSON; it is printed where that is not asked for."""
@@ -142,7 +142,8 @@ class Outcome:
         player, without = self.player, frozenset(map(frozenset, failure.links))
         ends = ends_left(player.program, player.network, without, self.known)
         if any(number != 1 for number in ends.values()):
-            self.several.append(f"{failure.name()} ({', '.join(number_text(number) for number in set(ends.values()))})")
+            numbers = ["not counted" if number is None else str(number) for number in set(ends.values())]
+            self.several.append(f"{failure.name()} ({', '.join(numbers)})")
         return {str(prefix): {"ends": number, "safe": is_safe(player.program, player.network, prefix, without)}
                 for prefix, number in ends.items()}
 
@@ -164,11 +165,6 @@ class Outcome:
         if counts:
             found["ends"] = self.count(failure)
         self.objects.append(found)
-
-
-def number_text(number):
-    """A number of ends."""
-    return "not counted" if number is None else str(number)
 
 
 def cell_text(state, one):
