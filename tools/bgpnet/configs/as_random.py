@@ -277,17 +277,13 @@ class Text:
                            for pair, client in maker.mesh[self.at].items())
         if is_reflector and draw.chance(0.4):
             lines.append(f"bgp cluster-id {draw.of(('9.9.9.9', 7, '9.9.9.8'))}")
-        for line, part in (("bgp deterministic-med", 0.3), ("bgp bestpath med missing-as-worst", 0.5 * maker.is_worst),
-                           ("no bgp suppress-duplicates", 1.0 * maker.is_worst),
-                           ("bgp bestpath as-path ignore", 0.05), ("bgp default local-preference 150", 0.1),
-                           ("bgp bestpath peer-type multipath-relax", 0.08),
-                           ("bgp bestpath as-path multipath-relax", 0.1),
-                           ("maximum-paths ibgp 4 equal-cluster-length", 0.1),
-                           ("no bgp client-to-client reflection", 0.12 * is_reflector),
-                           ("bgp route-reflector allow-outbound-policy", 0.2 * is_reflector)):
-            if draw.chance(part):
-                lines.append(line)
-        return lines
+        return lines + draw.each((
+            ("bgp deterministic-med", 0.3), ("bgp bestpath med missing-as-worst", 0.5 * maker.is_worst),
+            ("no bgp suppress-duplicates", 1.0 * maker.is_worst), ("bgp bestpath as-path ignore", 0.05),
+            ("bgp default local-preference 150", 0.1), ("bgp bestpath peer-type multipath-relax", 0.08),
+            ("bgp bestpath as-path multipath-relax", 0.1), ("maximum-paths ibgp 4 equal-cluster-length", 0.1),
+            ("no bgp client-to-client reflection", 0.12 * is_reflector),
+            ("bgp route-reflector allow-outbound-policy", 0.2 * is_reflector)))
 
     # ---- the IGP
 
