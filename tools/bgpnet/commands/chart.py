@@ -13,8 +13,8 @@ Thick are UPDATEs, blue those that announce, orange and broken those that withdr
 KEEPALIVEs (grey), shuts and NOTIFICATIONs (brown), and, violet and dotted, the markers of snapshots. A diamond is a
 command; a box is the path that a router keeps from there on; seconds that pass are a line across. A violet square is
 where a router records a snapshot, and the violet line through those of all routers is the cut: an UPDATE that leaves
-above it and ends below is in flight. The numbers in front are those of events. Below stand how snapshots came out, and a
-legend, but on a slide.
+above it and ends below is in flight. The numbers in front are those of events. Below stand how snapshots came out, and
+a legend, but on a slide.
 
 With --columns the chart goes on in a column beside the first; a column ends where no arrow is under way, if there is
 such a place near. With --slide it has as many columns as make its letters 12 points high (--points) on a slide of 13.3

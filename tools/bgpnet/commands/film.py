@@ -8,7 +8,8 @@ originate, withdraw, restart); it has the orders up to the next step, or with --
 trace` says of the run behind each step is drawn: routes; crossed out, links whose session is not up at both ends;
 dotted, links whose session is up and over which nothing came for some seconds; a ring around each router whose route is
 another than in the picture before. Below stands how snapshots came out, or what `bgpnet check` says of the routes in
-the network without the links that are down, and how many UPDATEs are on their way. --from and --to draw some of the steps, by their numbers."""
+the network without the links that are down, and how many UPDATEs are on their way. --from and --to draw some of the
+steps, by their numbers."""
 from bgpnet.films import MOST_PICTURES, MOST_STEPS, Shown, film_of
 from bgpnet.network import read_network
 from bgpnet.program import Program, Words, count, read_text, tool, write_text

@@ -17,9 +17,10 @@ lost at once, and then one after the other takes the best that its peers have, i
 random ones (--orders). The program judges the ends.
 
 Of each state it prints behind which round it rests (`bgpnet trace` says so), or that it did not within a bound in the
-order of `rounds`, and how random orders of the same events end (--orders); how many UPDATEs were told; and of each prefix which routers have another path, who has none (cut off where no links lead
-to the origin), who has not the path of before when all is back, and what `bgpnet check` says of the routes in the
-network as it is then. Of --fail-each-link it also counts the stable assignments of each network that is left.
+order of `rounds`, and how random orders of the same events end (--orders); how many UPDATEs were told; and of each
+prefix which routers have another path, who has none (cut off where no links lead to the origin), who has not the path
+of before when all is back, and what `bgpnet check` says of the routes in the network as it is then. Of
+--fail-each-link it also counts the stable assignments of each network that is left.
 
 The status is 3 where a router loses its route, or a state does not rest; else 4 where a route is not as before when all
 is back; else 5 where a network that is left has not one stable assignment."""
