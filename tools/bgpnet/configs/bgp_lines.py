@@ -1,5 +1,6 @@
 """The lines below `router bgp` of a configuration of FRR: the router's own, and those of its neighbors."""
 from bgpnet.configs.blocks import NOT_TAKEN, Blocks
+from bgpnet.configs.commands import REFUSED
 from bgpnet.configs.lists import mask_of
 from bgpnet.configs.places import Passed
 from bgpnet.configs.router import SENT, Line, Neighbor, Network
@@ -30,7 +31,7 @@ class BgpLines(Blocks):
     def do_again(self, words, line):
         """`router bgp` without a number is the one that is there."""
         if self.router.asn is None:
-            self.do_cut(words, line)
+            self.refuse(f"'{line.strip()}': {REFUSED['cut']}")
         self.block = "bgp"
 
     def do_router_id(self, words, line):
@@ -205,9 +206,6 @@ class BgpLines(Blocks):
 
     def do_weight(self, words, line):
         self.say(words, "weight", int(words[-1]) if words[0] != "no" else 0)
-
-    def do_shutdown_by_time(self, words, line):
-        self.refuse(f"'{line.strip()}': whether the session stays depends on time")
 
     def do_activate(self, words, line):
         is_active = words[0] != "no"

@@ -2,6 +2,7 @@
 import re
 
 from bgpnet.configs import commands
+from bgpnet.configs.interfaces import Interface
 from bgpnet.configs.places import Passed, Place, Reasons, refusal
 from bgpnet.configs.router import Router
 from bgpnet.configs.syntax import Unreadable, prefix_of
@@ -145,7 +146,7 @@ class Blocks:
         action, words = match.command.action, list(match.words)
         if action in ("foreign", "addresses", "warned", "ignored") and self.block == "config":
             self.router.foreign.add(self.place.line)
-        if match.command.why and self.block == "route-map" and action != "undone":
+        if match.command.why and self.block == "route-map" and action not in ("undone", "cut"):
             self.of_maps.setdefault(self.entry.map_name, []).append((self.place, f"'{line.strip()}': {match.command.why}"))
             return
         if match.command.why:
@@ -172,9 +173,6 @@ class Blocks:
     def do_finish(self, words, line):
         self.router.end = self.place.line
 
-    def do_cut(self, words, line):
-        self.refuse(f"'{line.strip()}': the command is cut short")
-
     def do_wrong(self, words, line):
         self.refuse(f"'{line.strip()}': {NOT_TAKEN}")
 
@@ -192,7 +190,8 @@ class Blocks:
             self.router.foreign.add(self.place.line)
 
     def do_addresses(self, words, line):
-        self.foreign, self.interface = "interface", self.router.interface(words[1], self.place)
+        self.foreign = "interface"
+        self.interface = self.router.interfaces.setdefault(words[1], Interface(words[1], self.place))
 
     def do_host(self, words, line):
         if words[0] == "hostname":

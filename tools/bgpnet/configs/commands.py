@@ -44,6 +44,8 @@ REFUSED = {
     "backdoor": "a backdoor or labelled network",
     "alias": "names of communities of one's own",
     "extcommunity": "extended communities are not read",
+    "cut": "the command is cut short",
+    "shutdown_by_time": "whether the session stays depends on time",
     "delay": "no delay: a map acts for a network only where it stands above its line",
 }
 

@@ -3,7 +3,6 @@ from collections import namedtuple
 
 from bgpnet.configs import inside, order, route, steps
 from bgpnet.configs.communities import community_text, large_text
-from bgpnet.configs.interfaces import Interface
 from bgpnet.configs.routes import ORIGINS, Denial
 from bgpnet.configs.speaker import Speaker
 
@@ -66,10 +65,6 @@ class Router(Speaker):
         self.maps, self.loopbacks = {}, set()
         self.default_preference, self.default_line, self.activates = 100, None, True
         self.options, self.suppresses, self.keeps_routes, self.cluster_line = {}, None, False, None
-
-    def interface(self, name, place):
-        """The interface of a name."""
-        return self.interfaces.setdefault(name, Interface(name, place))
 
     def all_neighbors(self):
         """Its groups of neighbors, and its neighbors."""

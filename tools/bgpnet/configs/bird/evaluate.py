@@ -144,8 +144,8 @@ def loop(node):
     return placed(node, run)
 
 
-def ending(node):
-    terms, end = [function_of(one) for one in node.args[0]], (node.op, None, node.place)
+def printed(node, end=None):
+    terms = [function_of(one) for one in node.args[0]]
 
     def run(state):
         for term in terms:
@@ -154,13 +154,8 @@ def ending(node):
     return placed(node, run)
 
 
-def printed(node):
-    terms = [function_of(one) for one in node.args[0]]
-
-    def run(state):
-        for term in terms:
-            term(state)
-    return placed(node, run)
+def ending(node):
+    return printed(node, (node.op, None, node.place))
 
 
 def returned(node):

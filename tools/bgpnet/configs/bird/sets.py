@@ -2,7 +2,7 @@
 
 A set of numbers, pairs, addresses and such is a search tree, as BIRD builds it. Where one item lies inside another,
 the tree loses members: they are lost here too."""
-from bgpnet.configs.bird.values import Incomparable, compare
+from bgpnet.configs.bird.values import compared
 
 
 # How many values a set or a mask keeps its answers of.
@@ -14,21 +14,6 @@ def keep(known, key, answer):
     if len(known) >= MOST_KNOWN:
         known.clear()
     known[key] = answer
-
-
-def not_above(one, other):
-    """Whether a value is not above another. Of two types it is neither above nor below."""
-    try:
-        return compare(one, other) != 1
-    except Incomparable:
-        return True
-
-
-def is_below(one, other):
-    try:
-        return compare(one, other) == -1
-    except Incomparable:
-        return False
 
 
 class Items:
@@ -56,9 +41,9 @@ class Items:
         node = self.root
         while node:
             (low, high, _), left, right = node
-            if not_above(low, value) and not_above(value, high):
+            if compared(low, value) != 1 and compared(value, high) != 1:
                 return node[0]
-            node = right if is_below(low, value) else left
+            node = right if compared(low, value) == -1 else left
         return None
 
 
