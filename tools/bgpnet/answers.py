@@ -14,7 +14,7 @@ Json = Mapping[str, Any]
 
 
 class Routes(Mapping[Tuple[int, Prefix], Path]):
-    """The path of each router for each prefix, `()` for none. In `routes[2, "10.1.0.0/16"]` the prefix may be a text."""
+    """Each router's path for each prefix, `()` for none. In `routes[2, "10.1.0.0/16"]` the prefix may be a text."""
 
     def __init__(self, paths: RouteDict) -> None:
         self._paths = dict(paths)
@@ -48,8 +48,8 @@ NO_ROUTES = Routes({})
 
 @dataclass(frozen=True)
 class Snapshot:
-    """How a snapshot came out: `verdict` is "settled", "moving" or "abandoned"; `why` says which fault or loss it is, of
-    which router and, where the fault has one, of which peer; a settled one has its routes."""
+    """How a snapshot came out: `verdict` is "settled", "moving" or "abandoned"; `why` says which fault or loss it is,
+    of which router and, where the fault has one, of which peer; a settled one has its routes."""
 
     number: int
     verdict: str
@@ -146,8 +146,8 @@ class StablePrefix:
         return replace(self, followers={router: in_order(router, paths) for router, paths in self.followers.items()})
 
     def assignments(self) -> Iterator[dict[int, Path]]:
-        """Each stable assignment, as the path of each router: of each dispute one of its choices, and of each router that
-        follows the first of its paths that goes on by that of its peer. None of a prefix of which nothing is said."""
+        """Each stable assignment, as the path of each router: of each dispute a choice, and of each router that follows
+        the first of its paths that goes on by that of its peer. None of a prefix of which nothing is said."""
         for chosen in itertools.product(*(dispute.choices for dispute in self.disputes)) if not self.unknown else ():
             paths = dict(self.paths)
             for dispute, choice in zip(self.disputes, chosen):
@@ -160,8 +160,8 @@ class StablePrefix:
 
 @dataclass(frozen=True, order=True)
 class Rim:
-    """A rim of a dispute wheel: a router that has `path` likes `better` more, which goes on by the path of the next rim,
-    that of the router `through`."""
+    """A rim of a dispute wheel: a router that has `path` likes `better` more, which goes on by the path of the next
+    rim, that of the router `through`."""
 
     path: Path
     better: Path
@@ -254,8 +254,8 @@ class Flight:
 
 @dataclass(frozen=True)
 class Cut:
-    """What a snapshot saw: whether it was decided and not abandoned; how many of the events stand inside it, and how many
-    there are; the routes that were recorded, and the UPDATEs in flight."""
+    """What a snapshot saw: whether it was decided and not abandoned; how many of the events stand inside it, and how
+    many there are; the routes that were recorded, and the UPDATEs in flight."""
 
     snapshot: int
     seen: bool

@@ -74,8 +74,8 @@ def remark_of(body: Octets, width: int, identified: Collection[str] = ()) -> str
 
 
 def merged_path(attributes: Mapping[int, bytes]) -> str | None:
-    """The path that AS_PATH and AS4_PATH say together (RFC 6793 section 4.2.3), None where there is no AS4_PATH, or it is
-    not used: it has more numbers than AS_PATH, or can't be read."""
+    """The path that AS_PATH and AS4_PATH say together (RFC 6793 section 4.2.3), None where there is no AS4_PATH, or it
+    is not used: it has more numbers than AS_PATH, or can't be read."""
     try:
         old, new = (segments_of(attributes[code], width) for code, width in ((AS_PATH, 2), (AS4_PATH, 4)))
     except (KeyError, struct.error, IndexError, ValueError):

@@ -85,7 +85,7 @@ class Shown:
 
 
 class Element(NamedTuple):
-    """An element of the picture: the place that says in which column it stands, its tag, its text and its attributes."""
+    """An element of the picture: the place that says in which column it stands, its tag, text and attributes."""
 
     at: float
     tag: str

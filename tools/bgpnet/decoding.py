@@ -114,8 +114,8 @@ class Capability:
 
 @dataclass(frozen=True)
 class Open:
-    """An OPEN: the AS number that it says (its AS field, or with numbers of four octets that of capability 65), the hold
-    time in seconds, the BGP Identifier, and the capabilities in their order."""
+    """An OPEN: the AS number that it says (its AS field, or with numbers of four octets that of capability 65), the
+    hold time in seconds, the BGP Identifier, and the capabilities in their order."""
 
     asn: int
     hold: int
@@ -198,8 +198,8 @@ class Decoded:
 
 
 def decode(program: Program, octets: bytes, width: int = 2, peer: int | None = None) -> Decoded:
-    """The messages that octets spell. `width` is that of AS numbers, 2 or 4; an OPEN, and the first number of a path, are
-    checked against the AS number `peer`, if one is given."""
+    """The messages that octets spell. `width` is that of AS numbers, 2 or 4; an OPEN, and the first number of a path,
+    are checked against the AS number `peer`, if one is given."""
     if width not in WORDS:
         raise Refusal(f"AS numbers have 2 or 4 octets, and not {width}")
     said = decoded(program, width, octets, 0, [] if peer is None else ["--peer", str(peer)])

@@ -79,8 +79,8 @@ class Picture:
 
 @dataclass(frozen=True)
 class Network:
-    """A network that the program takes. `text` has its lines, comments too, and no section behind them; refusals call it
-    by `name`. A notebook shows a picture of it."""
+    """A network that the program takes. `text` has its lines, comments too, and no section behind them; refusals call
+    it by `name`. A notebook shows a picture of it."""
 
     text: str = field(repr=False)
     name: str = "network"
@@ -172,8 +172,8 @@ class Network:
         return Schedule(self, tuple(orders.splitlines() if isinstance(orders, str) else orders))
 
     def settle(self, most: int = 100, play: int | None = None, jobs: int = 1) -> Ends:
-        """In which routes the network can rest, whether there is a dispute wheel, and what follows, as tools/settle says
-        it: `most` assignments of a prefix. With `play` two orders and so many random ones are played, so many at a
+        """In which routes the network can rest, whether there is a dispute wheel, and what follows, as tools/settle
+        says it: `most` assignments of a prefix. With `play` two orders and so many random ones are played, so many at a
         time. Refuses where the program does not confirm what is found."""
         if not self.facts.origins:
             raise Refusal(f"{self.name}: no origin, so no routes")
@@ -272,7 +272,7 @@ def given_links(given: GivenLink | Iterable[GivenLink]) -> list[GivenLink]:
 
 @dataclass(frozen=True)
 class Schedule:
-    """A network and a schedule for it: the lines of its orders, comments too. A notebook shows what stands at its end."""
+    """A network and the lines of a schedule for it, comments too. A notebook shows what stands at its end."""
 
     network: Network
     orders: Tuple[str, ...] = field(repr=False)
@@ -329,8 +329,8 @@ class Schedule:
 
 @dataclass(frozen=True)
 class Trace:
-    """A run: its events, each with what was said of it; how many UPDATEs were told; and behind which round its last line
-    of rounds rested, None where it did not, or there is none."""
+    """A run: its events, each with what was said of it; how many UPDATEs were told; and behind which round its last
+    line of rounds rested, None where it did not, or there is none."""
 
     events: Tuple[Event, ...]
     updates: int
@@ -400,9 +400,9 @@ class Assignment:
 
 @dataclass(frozen=True)
 class PrefixEnds:
-    """In which routes a prefix can come to rest: the stable assignments, and whether these are all; the rims of a dispute
-    wheel; what follows, in words, and as the status of tools/settle: 0 for one end in every order, 3 where a search gave
-    up, 4 for one assignment and a wheel, 5 for several, 6 for none."""
+    """In which routes a prefix can come to rest: the stable assignments, and whether these are all; the rims of a
+    dispute wheel; what follows, in words, and as the status of tools/settle: 0 for one end in every order, 3 where a
+    search gave up, 4 for one assignment and a wheel, 5 for several, 6 for none."""
 
     prefix: Prefix
     origin: int
@@ -498,8 +498,8 @@ def build_network(links: Iterable[Link], origins: Mapping[GivenPrefix, int],
                   rules: Mapping[tuple[int, GivenPrefix], Iterable[GivenPath]] | None = None,
                   routers: Iterable[int] = (), hold: int | None = None, cut: int | None = None, name: str = "network",
                   program: Program | None = None) -> Network:
-    """A network of these links and origins, and of rules by router and prefix, the best path first. A router is named by
-    its AS number; it has the BGP Identifier 10.0.0.N, where N is its place among all, rising."""
+    """A network of these links and origins, and of rules by router and prefix, the best path first. A router is named
+    by its AS number; it has the BGP Identifier 10.0.0.N, where N is its place among all, rising."""
     links, rules = list(links), dict(rules or {})
     known = sorted({*routers, *(end for link in links for end in link), *origins.values(), *(router for router, _ in rules)})
     lines = ["asn 4"] * any(router > texts.GREATEST_OF_TWO_OCTETS for router in known)
@@ -513,9 +513,9 @@ def build_network(links: Iterable[Link], origins: Mapping[GivenPrefix, int],
 
 def read_configurations(paths: Iterable[str], bird: Iterable[str] = (), best: int | None = None,
                         program: Program | None = None) -> Network:
-    """The network of routers' configurations, in the languages of FRR and BIRD, as tools/config reads them; the files of
-    `bird` are of BIRD, whatever they hold. With `best` a router that has more paths than a rule may have keeps so many.
-    Comments of the network call routers by their names."""
+    """The network of routers' configurations, in the languages of FRR and BIRD, as tools/config reads them; the files
+    of `bird` are of BIRD, whatever they hold. With `best` a router that has more paths than a rule may have keeps so
+    many. Comments of the network call routers by their names."""
     from bgpnet.configs import files, ranks  # loaded here alone: it takes some time
     untyped: Any = files, ranks
     of_files, of_ranks = untyped
@@ -526,8 +526,8 @@ def read_configurations(paths: Iterable[str], bird: Iterable[str] = (), best: in
 
 
 def decode(octets: bytes, width: int = 2, peer: int | None = None, program: Program | None = None) -> Decoded:
-    """The messages that octets spell, from an OPEN on or from any message, with all their fields, up to the first fault.
-    AS numbers have `width` octets, 2 or 4, which the octets do not say. A well-formed ROUTE-REFRESH (RFC 2918) is a message
-    too, although the program reads RFC 4271 alone. With `peer` an OPEN, and the first number of a
-    path, are checked against that AS number."""
+    """The messages that octets spell, from an OPEN on or from any message, with all their fields, up to the first
+    fault. AS numbers have `width` octets, 2 or 4, which the octets do not say. A well-formed ROUTE-REFRESH (RFC 2918)
+    is a message too, although the program reads RFC 4271 alone. With `peer` an OPEN, and the first number of a path,
+    are checked against that AS number."""
     return decoding.decode(program or default_program(), octets, width, peer)

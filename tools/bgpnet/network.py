@@ -319,7 +319,7 @@ def originations(network: Network) -> list[str]:
 
 def usual_orders(network: Network, rounds: int, later: int, draw: random.Random | None = None) -> list[str]:
     """The orders by which each session comes up and each prefix is originated, then rounds, a snapshot by the least
-    router, and later rounds in which it comes out. With `draw` the sessions, and then the prefixes, come in its order."""
+    router, and later rounds in which it comes out. With `draw` sessions, and then prefixes, come in its order."""
     begin, announce = starts(network), originations(network)
     for orders in (begin, announce) if draw else ():
         orders.sort(key=lambda _: draw.random() if draw else 0)

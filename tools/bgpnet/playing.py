@@ -12,8 +12,8 @@ from bgpnet.network import (Ends, Network, Path, Prefix, RouteDict, lines_text, 
 from bgpnet.program import Program, Refusal, Refused
 from bgpnet.tracing import Moment, events_of, orders_of
 
-# The path of each router for one prefix; a router that would move, with its path and its best one; and a line of `check`
-# behind words, with whether it is stable.
+# The path of each router for one prefix; a router that would move, with its path and its best one; and a line of
+# `check` behind words, with whether it is stable.
 Chosen = Mapping[int, Path]
 Move = Tuple[int, Path, Path]
 Said = Tuple[str, bool]

@@ -1,5 +1,5 @@
-"""Which timing decides: the shortest orders in which the routers of a prefix hear what they are told, by the end that each
-comes to."""
+"""Which timing decides: the shortest orders in which the routers of a prefix hear what they are told, by the end that
+each comes to."""
 from __future__ import annotations
 
 from collections import deque
@@ -20,9 +20,9 @@ MOST_STATES = 15_000
 
 
 class Hearings:
-    """The states of a prefix as its UPDATEs are heard one by one. A state is, for each way of a link, what its end heard
-    last and what is on its way; each router chooses and tells at once. A path with its hearer in it counts as none; an
-    UPDATE that says again what was heard last is heard at once, since it changes nothing."""
+    """The states of a prefix as its UPDATEs are heard one by one. A state is, for each way of a link, what its end
+    heard last and what is on its way; each router chooses and tells at once. A path with its hearer in it counts as
+    none; an UPDATE that says again what was heard last is heard at once, since it changes nothing."""
 
     def __init__(self, network: Network, prefix: Prefix) -> None:
         self.chooser, self.network = Chooser(network, prefix), network

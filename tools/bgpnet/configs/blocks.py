@@ -24,8 +24,8 @@ def indent_of(line):
 
 
 class Blocks:
-    """Obeys the lines of one file. `reasons` has what is refused of them; what hangs on a refused line is not refused by
-    itself."""
+    """Obeys the lines of one file. `reasons` has what is refused of them; what hangs on a refused line is not refused
+    by itself."""
 
     def __init__(self, text, name):
         self.router, self.block, self.place = Router(name), "config", Place(name, 0)

@@ -27,8 +27,8 @@ def compares_metric(router, one, other):
 
 
 def compares_all(router, group):
-    """Whether the metrics of all ways of a group are compared; None where some are, and False where none has to be, since
-    those that begin with the same AS have one."""
+    """Whether the metrics of all ways of a group are compared; None where some are, and False where none has to be,
+    since those that begin with the same AS have one."""
     firsts = {way.route.path[:1] for way in group}
     if len(firsts) == 1 or router.option("bgp always-compare-med"):
         return True

@@ -1,4 +1,4 @@
-"""Neighbors without a configuration: what an AS outside a set was seen to announce, as the configuration of a router."""
+"""Neighbors without a configuration: what an AS outside a set was seen to announce, as a router's configuration."""
 import struct
 
 from bgpnet.attributes import AS_PATH, Update, attributes_of, segments_of

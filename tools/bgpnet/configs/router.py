@@ -52,8 +52,8 @@ class Neighbor:
 
 
 class Router(Speaker):
-    """What a file in the language of FRR says. `loopbacks` are the addresses of `lo`; `suppresses` is what a line says of
-    duplicates, and `keeps_routes` whether it keeps the routes of a peer that restarts."""
+    """What a file in the language of FRR says. `loopbacks` are the addresses of `lo`; `suppresses` is what a line says
+    of duplicates, and `keeps_routes` whether it keeps the routes of a peer that restarts."""
 
     language = "FRR"
 

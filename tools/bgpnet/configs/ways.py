@@ -20,8 +20,8 @@ def crossed(routers, prefix, way, peer):
 
 
 class Follower:
-    """Follows the ways of the prefixes of a set; those that go alike are followed once. `reasons` is where it is kept why
-    ways are refused.
+    """Follows the ways of the prefixes of a set; those that go alike are followed once. `reasons` is where it is kept
+    why ways are refused.
 
     `with_notes` asks for the line of each attribute, and for `denials`: of each prefix the denial of each way that ends
     in one."""
