@@ -1,12 +1,13 @@
 """Networks as the program reads them, of texts that it has taken: it alone refuses (`read_network` asks it)."""
 from __future__ import annotations
 
+import argparse
 import ipaddress
 import random
 import re
 from typing import Collection, Dict, FrozenSet, Iterable, Iterator, Mapping, NamedTuple, Sequence, Tuple
 
-from bgpnet.program import Program, Refusal
+from bgpnet.program import Program, Refusal, read_text
 
 # The limits of networks (docs/TEXTS.md).
 MOST_ROUTERS = 64
@@ -272,6 +273,12 @@ def read_network(program: Program, text: str, name: str) -> tuple[Network, str |
     above = "\n".join(lines[:-1] + [""] if section else lines)
     program.answer(["check"], above, name)
     return Network(lines), section, rest
+
+
+def network_asked(asked: argparse.Namespace, name: str) -> tuple[Program, str, Network, str | None, list[str]]:
+    """The program that a command line names, and the text of this name: with its network, and its section and lines."""
+    program, text = Program(asked.program), read_text(name)
+    return (program, text, *read_network(program, text, name))
 
 
 def routes_of(lines: Iterable[str]) -> RouteDict:

@@ -16,9 +16,9 @@ of more than twelve routers a browser shows the rule of the one under the pointe
 providers. A comment `# 30 at 2 1` puts router 30 two steps to the right and one down, and `# 30 called west` writes
 that name into its circle. A legend says what is what."""
 from bgpnet.films import drawn_routes, svg_of
-from bgpnet.network import read_network, routes_of, words_of
+from bgpnet.network import network_asked, routes_of, words_of
 from bgpnet.playing import chosen_prefix, state_behind
-from bgpnet.program import Program, Refusal, Words, read_text, tool, write_text
+from bgpnet.program import Refusal, Words, read_text, tool, write_text
 
 
 def reported(network, name):
@@ -50,9 +50,7 @@ def main():
     asked = words.parse_args()
     if asked.routes == asked.network == "-":
         words.error("the network and the routes can't both come by the standard input")
-    program = Program(asked.program)
-    text = read_text(asked.network)
-    network, section, rest = read_network(program, text, asked.network)
+    program, text, network, section, rest = network_asked(asked, asked.network)
     if section:
         program.answer(["check" if section == "assignment" else "play"], text, asked.network)
     prefix, state = chosen_prefix(network, asked.prefix), None

@@ -17,8 +17,8 @@ import os
 import pathlib
 
 from bgpnet import layout
-from bgpnet.network import parts_of, read_network, routes_of
-from bgpnet.program import Program, Refusal, Words, count, read_text, tool, write_text
+from bgpnet.network import network_asked, parts_of, routes_of
+from bgpnet.program import Refusal, Words, count, tool, write_text
 from bgpnet.tracing import COMMANDS, events_of, orders_of
 
 PAGE = pathlib.Path(__file__).resolve().parents[1] / "page"
@@ -108,9 +108,7 @@ def main():
     words.add_argument("schedule", metavar="SCHEDULE", help="an input of `bgpnet play`, - for the standard input")
     words.add_argument("--to", type=count(1, MOST_EVENTS), metavar="N", help="play up to the event of this number")
     asked = words.parse_args()
-    program = Program(asked.program)
-    text = read_text(asked.schedule)
-    network, section, rest = read_network(program, text, asked.schedule)
+    program, text, network, section, rest = network_asked(asked, asked.schedule)
     if section != "schedule":
         raise Refusal(f"{asked.schedule}: no schedule")
     said = program.answer(["play"], text, asked.schedule)

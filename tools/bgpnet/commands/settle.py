@@ -29,8 +29,8 @@ import sys
 from bgpnet import jobs
 from bgpnet.answers import routes_json
 from bgpnet.live import warnings
-from bgpnet.network import path_text, read_link, read_network
-from bgpnet.program import Program, Refusal, Words, count, read_text, tool
+from bgpnet.network import network_asked, path_text, read_link
+from bgpnet.program import Refusal, Words, count, tool
 from bgpnet.settling import Order, Timing, found_of, is_confirmed, judged_assignments, play_orders, row_text
 
 
@@ -117,8 +117,7 @@ def main():
     jobs.add_word(words)
     words.add_argument("--json", action="store_true", help="print JSON")
     asked = words.parse_args()
-    program = Program(asked.program)
-    network = read_network(program, read_text(asked.network), asked.network)[0]
+    program, _, network, *_ = network_asked(asked, asked.network)
     without = list(dict.fromkeys(read_link(network, word) for word in asked.without))
     network.leave_out(frozenset(map(frozenset, without)))
     if asked.write is not None:

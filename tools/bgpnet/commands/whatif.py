@@ -33,9 +33,9 @@ from bgpnet.answers import routes_json
 from bgpnet.becoming import Change, check_alike
 from bgpnet.failures import Failure, Player, alike_key, seen_in
 from bgpnet.leftover import ends_left, is_safe, start_in
-from bgpnet.network import path_text, read_link, read_network, read_router
+from bgpnet.network import network_asked, path_text, read_link, read_network, read_router
 from bgpnet.playing import state_behind
-from bgpnet.program import Program, Refusal, Words, count, read_text, tool
+from bgpnet.program import Refusal, Words, count, read_text, tool
 from bgpnet.reports import read_report
 from bgpnet.tracing import rest_bound
 
@@ -254,9 +254,7 @@ def main():
         words.error("--back and --write are of a failure")
     if asked.then and not (asked.fail or asked.crash):
         words.error("--then goes with --fail or --crash")
-    program = Program(asked.program)
-    text = read_text(asked.network)
-    network, section, rest = read_network(program, text, asked.network)
+    program, text, network, section, rest = network_asked(asked, asked.network)
     if not network.origins:
         raise Refusal(f"{asked.network}: no origin, so no routes")
     if asked.scheduled and section != "schedule":
