@@ -28,11 +28,9 @@ class Peer(Neighbor):
         super().__init__(key, address, protocol.place, self.channel is not None)
         self.protocol, self.name, self.asn_line = protocol, protocol.name, asn
         self.is_direct = not protocol.value("multihop", 0)
-        for words, kind in (("source", "source"), ("password", "password"), ("router id", "router id")):
-            if words in protocol.said:
-                self.said[kind] = protocol.said[words]
-        if protocol.value("passive"):
-            self.said["passive"] = protocol.said["passive"]
+        for words in ("source", "password", "router id", "passive"):
+            if words in protocol.said and protocol.value(words) is not False:
+                self.said[words] = protocol.said[words]
         hops = 1 if self.is_direct else protocol.value("multihop")
         self.said["ebgp-multihop"] = Line(hops, self.place)
         if protocol.value("ttl security"):

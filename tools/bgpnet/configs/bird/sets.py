@@ -9,11 +9,14 @@ from bgpnet.configs.bird.values import compared
 MOST_KNOWN = 65536
 
 
-def keep(known, key, answer):
-    """Keeps an answer, in place of all others where these are many."""
-    if len(known) >= MOST_KNOWN:
-        known.clear()
-    known[key] = answer
+def kept(known, key, find):
+    """The answer that is kept of a key; one that is not there is found, and kept in place of all others where these are
+    many."""
+    if key not in known:
+        if len(known) >= MOST_KNOWN:
+            known.clear()
+        known[key] = find()
+    return known[key]
 
 
 class Items:
@@ -32,10 +35,7 @@ class Items:
 
     def find(self, value):
         """The item that has a value, or None."""
-        key = type(value), value
-        if key not in self.known:
-            keep(self.known, key, self.search(value))
-        return self.known[key]
+        return kept(self.known, (type(value), value), lambda: self.search(value))
 
     def search(self, value):
         node = self.root
@@ -78,10 +78,8 @@ class PrefixSet:
         self.items, self.known = tuple(items), {}
 
     def has(self, prefix):
-        if prefix not in self.known:
-            keep(self.known, prefix, any(low <= prefix.length <= high and agrees(prefix, pattern)
-                                         for pattern, low, high in self.items))
-        return self.known[prefix]
+        return kept(self.known, prefix, lambda: any(low <= prefix.length <= high and agrees(prefix, pattern)
+                                                    for pattern, low, high in self.items))
 
     def __eq__(self, other):
         return isinstance(other, PrefixSet) and sorted(set(self.items)) == sorted(set(other.items))
@@ -107,9 +105,7 @@ class Mask:
 
     def fits(self, path):
         """Whether the whole path fits."""
-        if path not in self.known:
-            keep(self.known, path, self.search(path))
-        return self.known[path]
+        return kept(self.known, path, lambda: self.search(path))
 
     def search(self, path):
         places = self.closed({0})
