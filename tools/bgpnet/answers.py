@@ -33,7 +33,8 @@ class Routes(Mapping[Tuple[int, Prefix], Path]):
         return hash(frozenset(self._paths.items()))
 
     def __repr__(self) -> str:
-        return "Routes(" + ", ".join(f"{router} {prefix} {path_text(path)}" for (router, prefix), path in self.items()) + ")"
+        rows = [f"{router} {prefix} {path_text(path)}" for (router, prefix), path in self.items()]
+        return f"Routes({', '.join(rows)})"
 
     def of(self, prefix: Prefix | str) -> dict[int, Path]:
         """The path of each router for one prefix."""
@@ -188,7 +189,8 @@ def read_check(lines: Sequence[str]) -> Judgement:
 
 def read_check_all(lines: Sequence[str]) -> dict[Prefix, tuple[Judgement, ...]]:
     """What `check --all` says: of each prefix each router that would move, none where it is stable."""
-    return {Prefix.read(rows[0][1]): tuple(read_check([" ".join(words)]) for words in rows[1:]) for rows in by_prefix(lines)}
+    return {Prefix.read(head[1]): tuple(read_check([" ".join(words)]) for words in rows)
+            for head, *rows in by_prefix(lines)}
 
 
 def by_prefix(lines: Sequence[str]) -> list[list[list[str]]]:
@@ -342,8 +344,8 @@ def known_of(lines: Sequence[str]) -> Known:
     words = lines[0].split()
     heard = [heard_of(*line.split(": ", 1)) for line in lines[1:] if line.split()[0] == "from"]
     told = [tuple(map(int, line.split()[1:])) for line in lines[1:] if line.split()[0] == "told"]
-    return Known(Prefix.read(words[1]), read_path(words[3].rstrip(",")), lines[0].endswith(", originated"), tuple(heard),
-                 told[0] if told else ())
+    return Known(Prefix.read(words[1]), read_path(words[3].rstrip(",")), lines[0].endswith(", originated"),
+                 tuple(heard), told[0] if told else ())
 
 
 def heard_of(said: str, what: str) -> Heard:
@@ -359,7 +361,8 @@ def heard_of(said: str, what: str) -> Heard:
 # ---- as JSON
 
 def routes_json(routes: Mapping[Tuple[int, Prefix], Path]) -> list[Json]:
-    return [{"router": router, "prefix": str(prefix), "path": path_text(path)} for (router, prefix), path in routes.items()]
+    return [{"router": router, "prefix": str(prefix), "path": path_text(path)}
+            for (router, prefix), path in routes.items()]
 
 
 def snapshot_json(one: Snapshot) -> Json:
@@ -378,8 +381,9 @@ def play_json(lines: Sequence[str]) -> Json:
 
 def check_json(lines: Sequence[str]) -> Json:
     if lines[0].startswith("prefix "):
-        return {"prefixes": [{"prefix": str(prefix), "stable": not moving, "unstable": list(map(judgement_json, moving))}
-                             for prefix, moving in read_check_all(lines).items()]}
+        return {"prefixes": [
+            {"prefix": str(prefix), "stable": not moving, "unstable": list(map(judgement_json, moving))}
+            for prefix, moving in read_check_all(lines).items()]}
     found = read_check(lines)
     return {"stable": True} if found.stable else {"stable": False, **judgement_json(found)}
 
@@ -400,7 +404,8 @@ def stable_prefix_json(one: StablePrefix) -> Json:
             "disputes": [{"stable": dispute.count, "routers": list(dispute.routers),
                           "choices": [list(map(path_text, choice)) for choice in dispute.choices]}
                          for dispute in one.disputes],
-            "follow": [{"router": router, "paths": list(map(path_text, paths))} for router, paths in one.followers.items()]}
+            "follow": [{"router": router, "paths": list(map(path_text, paths))}
+                       for router, paths in one.followers.items()]}
 
 
 def cut_json(lines: Sequence[str]) -> Json:
@@ -450,8 +455,8 @@ def run_json(lines: Sequence[str]) -> Json:
 
 
 FORMS: Mapping[str, Callable[[Sequence[str]], Json]] = {
-    "play": play_json, "check": check_json, "stable": stable_json, "cut": cut_json, "why": why_json, "decode": decode_json,
-    "trace": trace_json, "record": trace_json, "run": run_json}
+    "play": play_json, "check": check_json, "stable": stable_json, "cut": cut_json, "why": why_json,
+    "decode": decode_json, "trace": trace_json, "record": trace_json, "run": run_json}
 
 
 def counts_json(trace: Sequence[str]) -> Json:

@@ -192,8 +192,8 @@ class Chart:
         self.owner = owner
         self.numbers.append(number)
         if self.rows > MOST_ROWS:
-            raise Refusal(f"more than {MOST_ROWS} rows: --to {self.last_event()} has room; --from, --updates and --prefix show a "
-                          "part too")
+            raise Refusal(f"more than {MOST_ROWS} rows: --to {self.last_event()} has room; --from, --updates and "
+                          "--prefix show a part too")
         return self.y
 
     def last_event(self) -> int:
@@ -477,7 +477,8 @@ class Chart:
         elif kind == "put":
             canvas.add("circle", class_="sample", style=f"fill: {COLOURS['announce']}", cx=x + 12, cy=y, r=3.5)
         elif kind == "kept":
-            canvas.add("rect", class_="sample", style="fill: #e3f0f8; stroke: #0072b2", x=x, y=y - 7, width=24, height=14)
+            canvas.add("rect", class_="sample", style="fill: #e3f0f8; stroke: #0072b2", x=x, y=y - 7, width=24,
+                       height=14)
         elif kind == "recording":
             canvas.add("rect", class_="sample", style="fill: #8430ce", x=x + 7, y=y - 5, width=10, height=10)
         elif kind == "event":
@@ -596,7 +597,8 @@ def chart_of(network: Network, events: Iterable[Event], shown: Shown) -> Chart:
     return chart
 
 
-def part_with_room(network: Network, events: Sequence[Event], shown: Shown, chart: Chart, verdicts: Sequence[str]) -> str:
+def part_with_room(network: Network, events: Sequence[Event], shown: Shown, chart: Chart,
+                   verdicts: Sequence[str]) -> str:
     """The words that make room on a slide: smaller letters, as many events from the first on as have room, and what
     shows less."""
     points = next((points for points in range(shown.points - 1, LEAST_POINTS - 1, -1)

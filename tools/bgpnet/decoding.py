@@ -8,8 +8,8 @@ from dataclasses import dataclass
 from typing import Iterator, List, Sequence, Tuple, Union
 
 from bgpnet import attributes
-from bgpnet.messages import (HEAD, NOTIFICATION, OPEN, REFRESH_HEAD, ROUTE_REFRESH, UPDATE, Message, Octets, messages_of,
-                             refresh_text)
+from bgpnet.messages import (HEAD, NOTIFICATION, OPEN, REFRESH_HEAD, ROUTE_REFRESH, UPDATE, Message, Octets,
+                             messages_of, refresh_text)
 from bgpnet.names import capability_text, notification_text
 from bgpnet.network import Prefix
 from bgpnet.program import Program, Refusal
@@ -256,7 +256,8 @@ def update_of(words: Sequence[str], body: bytes, width: int) -> Update:
         number(attributes.MULTI_EXIT_DISC), number(attributes.LOCAL_PREF), attributes.ATOMIC_AGGREGATE in said,
         (int(aggregator[0]), aggregator[1]) if aggregator else None, tuple(said.get(attributes.COMMUNITIES, ())),
         tuple(said.get(attributes.LARGE_COMMUNITY, ())),
-        tuple(Attribute(code, value, attributes.attribute_text(code, value, width, ())) for code, value in values.items()))
+        tuple(Attribute(code, value, attributes.attribute_text(code, value, width, ()))
+              for code, value in values.items()))
 
 
 def prefixes_behind(word: str, words: Sequence[str]) -> tuple[Prefix, ...]:

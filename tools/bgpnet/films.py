@@ -133,7 +133,8 @@ def drawn_steps(program: Program, network: Network, prefix: Prefix, played: Sequ
         if moment.waiting[prefix] or not any(is_good for _, is_good in captions):
             captions += captions_of(network, judged, unstable, moment.waiting[prefix])
         title = f"{at}. {title_of(network, step)}"
-        yield layout.Drawn(prefix, routes, unstable, moment.broken, changed, title, captions, moment.silent, shown.rules)
+        yield layout.Drawn(prefix, routes, unstable, moment.broken, changed, title, captions, moment.silent,
+                           shown.rules)
 
 
 def film_of(program: Program, network: Network, text: str, name: str, shown: Shown = Shown()) -> str:

@@ -11,9 +11,9 @@ from dataclasses import dataclass, field
 from typing import Any, Iterable, Mapping, Sequence, Tuple, Union
 
 from bgpnet import charts, decoding, films, network as texts, playing, settling
-from bgpnet.answers import (Cut, Dispute, Flight, Heard, Judgement, Known, Played, Rim, Routes, SafePrefix, Session, Settled,
-                            Snapshot, StablePrefix, Why, read_check, read_cut, read_play, read_run, read_safe, read_stable,
-                            read_why)
+from bgpnet.answers import (Cut, Dispute, Flight, Heard, Judgement, Known, Played, Rim, Routes, SafePrefix, Session,
+                            Settled, Snapshot, StablePrefix, Why, read_check, read_cut, read_play, read_run, read_safe,
+                            read_stable, read_why)
 from bgpnet.decoding import (Attribute, Capability, Decoded, Fault, Keepalive, Notification, Open, RouteRefresh, Update)
 from bgpnet.failures import Failure, Player, Seen, StateBehind, seen_in
 from bgpnet.live import Preference
@@ -22,11 +22,12 @@ from bgpnet.program import Program, Refusal, Refused, found_program, read_octets
 from bgpnet.tracing import Again, Event, counts_of, events_of, orders_of, rest_bound, rows_of
 
 __all__ = [
-    "Aftermath", "Again", "Assignment", "Attribute", "Capability", "Consequence", "Cut", "Decoded", "Dispute", "Ends", "Event",
-    "Fault", "Flight", "Heard", "Judgement", "Keepalive", "Known", "Network", "Notification", "Open", "OrderEnd", "Path",
-    "Picture", "Played", "Prefix", "PrefixEnds", "Program", "Refusal", "Refused", "Rim", "RouteRefresh", "Routes", "SafePrefix",
-    "Schedule", "Seen", "Session", "Settled", "Snapshot", "StablePrefix", "State", "Trace", "Update", "Why", "build_network",
-    "decode", "read_assignment", "read_configurations", "read_network", "read_schedule"]
+    "Aftermath", "Again", "Assignment", "Attribute", "Capability", "Consequence", "Cut", "Decoded", "Dispute", "Ends",
+    "Event", "Fault", "Flight", "Heard", "Judgement", "Keepalive", "Known", "Network", "Notification", "Open",
+    "OrderEnd", "Path", "Picture", "Played", "Prefix", "PrefixEnds", "Program", "Refusal", "Refused", "Rim",
+    "RouteRefresh", "Routes", "SafePrefix", "Schedule", "Seen", "Session", "Settled", "Snapshot", "StablePrefix",
+    "State", "Trace", "Update", "Why", "build_network", "decode", "read_assignment", "read_configurations",
+    "read_network", "read_schedule"]
 
 # A path as a program gives one: its routers, or a text such as "2-3-1" or "none"; a link so, or as "1-2", by numbers or
 # names.
@@ -217,7 +218,8 @@ class Network:
                               f"{', '.join(map(self.facts.link_text, down))}")
         return Player(self.program, self.facts, list(begin.orders) if begin else None, orders)
 
-    def _failure(self, fail: GivenLink | Iterable[GivenLink], crash: int | str | None, silent: GivenLink | None) -> Failure:
+    def _failure(self, fail: GivenLink | Iterable[GivenLink], crash: int | str | None,
+                 silent: GivenLink | None) -> Failure:
         links = [self.link(one) for one in given_links(fail)]
         if bool(links) + (crash is not None) + (silent is not None) != 1:
             raise Refusal("one of `fail`, `crash` and `silent` is given")
@@ -302,7 +304,8 @@ class Schedule:
         lines = self._answer("trace")
         rows = list(rows_of(lines))
         ended = [row.rest for row in rows if row.is_of_rounds]
-        return Trace(tuple(events_of(lines, orders_of(self.text))), counts_of(rows).updates, ended[-1] if ended else None)
+        events = tuple(events_of(lines, orders_of(self.text)))
+        return Trace(events, counts_of(rows).updates, ended[-1] if ended else None)
 
     def state(self) -> State:
         """What stands at its end."""
@@ -366,10 +369,10 @@ class State:
 
     def draw(self, prefix: GivenPrefix | None = None, title: str = "", rules: bool = True) -> Picture:
         """A picture of it, as tools/draw draws it: the routes of a prefix, what is down, and what `check` says."""
-        network = self.network
-        chosen = playing.chosen_prefix(network.facts, None if prefix is None else str(prefix))
-        drawn = films.drawn_routes(network.program, network.facts, chosen, self.behind.routes, self.behind, title, rules)
-        return Picture(films.svg_of(network.facts, chosen, [drawn]))
+        program, facts = self.network.program, self.network.facts
+        chosen = playing.chosen_prefix(facts, None if prefix is None else str(prefix))
+        drawn = films.drawn_routes(program, facts, chosen, self.behind.routes, self.behind, title, rules)
+        return Picture(films.svg_of(facts, chosen, [drawn]))
 
     def _repr_svg_(self) -> str:
         return self.draw().svg
@@ -434,8 +437,8 @@ class Ends:
 
 def prefix_ends(found: settling.Found) -> PrefixEnds:
     verdict, status = found.verdict
-    return PrefixEnds(found.prefix, found.origin, tuple(found.assignments[:found.most]), found.are_all, tuple(found.wheel),
-                      verdict, status)
+    return PrefixEnds(found.prefix, found.origin, tuple(found.assignments[:found.most]), found.are_all,
+                      tuple(found.wheel), verdict, status)
 
 
 @dataclass(frozen=True)
@@ -501,7 +504,8 @@ def build_network(links: Iterable[Link], origins: Mapping[GivenPrefix, int],
     """A network of these links and origins, and of rules by router and prefix, the best path first. A router is named
     by its AS number; it has the BGP Identifier 10.0.0.N, where N is its place among all, rising."""
     links, rules = list(links), dict(rules or {})
-    known = sorted({*routers, *(end for link in links for end in link), *origins.values(), *(router for router, _ in rules)})
+    ends = (end for link in links for end in link)
+    known = sorted({*routers, *ends, *origins.values(), *(router for router, _ in rules)})
     lines = ["asn 4"] * any(router > texts.GREATEST_OF_TWO_OCTETS for router in known)
     lines += [f"{word} {value}" for word, value in (("hold", hold), ("cut", cut)) if value is not None]
     lines += [f"router {router} 10.0.0.{place}" for place, router in enumerate(known, 1)]

@@ -269,7 +269,8 @@ class Layout:
 
     def __init__(self, network: Network, spots: Spots, drawns: Sequence[Drawn]) -> None:
         self.network, self.drawns = network, drawns
-        self.texts = {router: Texts([rule_texts(network, router, drawn) for drawn in drawns]) for router in network.routers}
+        self.texts = {router: Texts([rule_texts(network, router, drawn) for drawn in drawns])
+                      for router in network.routers}
         link = LINK if len(spots) <= MOST_WITH_RULES else LONG_LINK
         self.spots = {router: (x * link, y * link) for router, (x, y) in spots.items()}
         curves = [self.bent(ends) for ends in network.links]

@@ -81,8 +81,8 @@ class Words(argparse.ArgumentParser):
     def __init__(self, text: str | None, asks: bool = True) -> None:
         super().__init__(description=text, allow_abbrev=False, formatter_class=argparse.RawDescriptionHelpFormatter)
         if asks:
-            self.add_argument("--program", metavar="PATH", default=found_program(),
-                              help="the program (what BGPNET names, else bgpnet on PATH, else crates/bgpnet/out/bgpnet)")
+            self.add_argument("--program", metavar="PATH", default=found_program(), help="the program (what BGPNET "
+                              "names, else bgpnet on PATH, else crates/bgpnet/out/bgpnet)")
 
     def format_help(self) -> str:
         text = super().format_help()

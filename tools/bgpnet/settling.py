@@ -255,7 +255,8 @@ class Timing:
                 for words, (end, order, text) in zip(self.words, self.ends)]
 
 
-def is_confirmed(found: Sequence[Found], judged: Sequence[Sequence[tuple[dict[int, Path], Said]]], ends: OrderEnds) -> bool:
+def is_confirmed(found: Sequence[Found], judged: Sequence[Sequence[tuple[dict[int, Path], Said]]],
+                 ends: OrderEnds) -> bool:
     """Whether the program says the same: each assignment is stable, orders settle in those that were found, and where
     there is no wheel none goes on for ever."""
     listed = {one.prefix: one.assignments for one in found if one.are_all}

@@ -125,7 +125,7 @@ def parting(orders: Sequence[HearingOrder]) -> tuple[Link | None, Link | None]:
 def sentence(network: Network, one: Link, other: Link) -> str:
     """Two hearings, the first before the second, in words."""
     sender, router, later, last = map(network.name_of, one + other)
-    return f"{router} hears {sender} before {later}" if router == last else f"{router} hears {sender} before {last} hears {later}"
+    return f"{router} hears {sender} before " + (later if router == last else f"{last} hears {later}")
 
 
 def schedule_of(network: Network, prefix: Prefix, order: HearingOrder) -> list[str]:

@@ -105,8 +105,8 @@ def asked_words():
     words.add_argument("--external", nargs=2, metavar=("AS", "FILE"), action="append", default=[],
                        help="a neighbor without a configuration, which announces what FILE shows of it: MRT, JSON of "
                        "FRR, or lines PREFIX AS AS ..")
-    words.add_argument("--igp", metavar="FILE", help="the edges of the IGP where an AS has several routers, a line ROUTER "
-                       "ROUTER COST for each")
+    words.add_argument("--igp", metavar="FILE", help="the edges of the IGP where an AS has several routers, a line "
+                       "ROUTER ROUTER COST for each")
     words.add_argument("--igp-down", metavar="U-V", action="append", default=[],
                        help="without this link of the IGP, as it is when it fails")
     words.add_argument("--ties", action="store_true", help="play the orders of ties, and list the ends")

@@ -24,8 +24,8 @@ import sys
 from bgpnet.attributes import remark_of
 from bgpnet.captures import SECOND, connections_of, is_hex, spoken_of
 from bgpnet.decoding import WORDS, decoded, hex_lines, parts_of, without_refreshes
-from bgpnet.messages import (FAMILIES, FOUR_OCTET_ASN, KINDS, MARKER, NOTIFICATION, OPEN, ROUTE_REFRESH, SUBSEQUENT, UPDATE,
-                             capabilities_of, family_text, first_message, messages_of, path_identifiers)
+from bgpnet.messages import (FAMILIES, FOUR_OCTET_ASN, KINDS, MARKER, NOTIFICATION, OPEN, ROUTE_REFRESH, SUBSEQUENT,
+                             UPDATE, capabilities_of, family_text, first_message, messages_of, path_identifiers)
 from bgpnet.mrt import is_mrt, peerings_of
 from bgpnet.names import notification_text, open_text
 from bgpnet.network import Prefix

@@ -196,10 +196,12 @@ def print_table(outcome):
 def print_sum(outcome, failures, back, counts=False):
     """What is found of several failures, in some lines."""
     print(f"{len(failures)} failures")
-    for names, said in ((outcome.losing, "a router loses its route"), (outcome.moving, "it does not rest in the order of `rounds`")) + (
-            ((outcome.other, "a route is not as before when all is back"),) if back else ()) + (
-            ((outcome.several, "what is left has not one end"),) if counts else ()):
-        print(f"  {said}: {', '.join(names) or 'none'}")
+    for names, said, is_asked in ((outcome.losing, "a router loses its route", True),
+                                  (outcome.moving, "it does not rest in the order of `rounds`", True),
+                                  (outcome.other, "a route is not as before when all is back", back),
+                                  (outcome.several, "what is left has not one end", counts)):
+        if is_asked:
+            print(f"  {said}: {', '.join(names) or 'none'}")
 
 
 # ---- words
@@ -229,11 +231,13 @@ def main():
     kinds.add_argument("--fail", metavar="U-V", nargs="+", help="the links fail together, and their ends see it")
     kinds.add_argument("--fail-each-link", action="store_true", help="each link fails by itself")
     kinds.add_argument("--crash", metavar="U", help="the router restarts, and forgets all")
-    kinds.add_argument("--becomes", metavar="FILE", help="the network becomes that of another text, of the same routers")
+    kinds.add_argument("--becomes", metavar="FILE",
+                       help="the network becomes that of another text, of the same routers")
     kinds.add_argument("--silent", metavar="U-V", help="nothing crosses the link, and nobody is told")
     words.add_argument("--then", metavar="U-V", nargs="+", help="these links fail too, behind the first failure")
     words.add_argument("--two", action="store_true", help="with --fail-each-link, each two links fail together")
-    words.add_argument("--table", action="store_true", help="with --fail-each-link, a table of failures and prefixes alone")
+    words.add_argument("--table", action="store_true",
+                       help="with --fail-each-link, a table of failures and prefixes alone")
     words.add_argument("--from", dest="begin", metavar="FILE", nargs="+",
                        help="begin in these routes: what `play` printed, or FRR's `show bgp ipv4 unicast json`")
     words.add_argument("--back", action="store_true", help="and what failed is there again")
@@ -329,7 +333,8 @@ def answer(program, network, scheduled, failures, asked):
     if asked.then:
         player.then = list(dict.fromkeys(read_link(network, word) for word in asked.then))
     if asked.write:
-        sys.stdout.write(network.remarks + player.text([stage for stage, _ in player.failing_stages(failures[0], asked.back)]))
+        stages = player.failing_stages(failures[0], asked.back)
+        sys.stdout.write(network.remarks + player.text([stage for stage, _ in stages]))
         return 0
     player.before = player.states([])[0]
     outcome, counts = Outcome(player, asked.json or asked.table), asked.fail_each_link
@@ -338,7 +343,7 @@ def answer(program, network, scheduled, failures, asked):
     staged = [player.failing_stages(failure, asked.back) for failure in failures] if rests else []
     for failure, stages, states in zip(failures, staged, jobs.in_order(player.states, staged, asked.jobs, "failures")):
         outcome.see_failure(failure, stages, states, counts)
-    status = (3 if outcome.losing or outcome.moving or not rests else 4 if outcome.other else 5 if outcome.several else 0)
+    status = 3 if outcome.losing or outcome.moving or not rests else 4 if outcome.other else 5 * bool(outcome.several)
     if asked.json:
         found = {"network": asked.network, "bound": player.bound, "before": state_object(player.before, before),
                  "failures": outcome.objects, "status": status}

@@ -50,7 +50,7 @@ class Maker:
         self.both = set()  # the pairs of which each is the other's client
         self.mesh = {at: self.sessions_inside([place for place, of in enumerate(self.of) if of == at])
                      for at in range(len(sizes))}
-        self.far = {pair for pair, link in self.pairs.items() if self.mode not in ("edges", "isis") and draw.chance(0.08)}
+        self.far = {pair for pair in self.pairs if self.mode not in ("edges", "isis") and draw.chance(0.08)}
         self.near = {pair for own in self.mesh.values() for pair in own if draw.chance(0.12)}
         self.hop = [draw.of(("none", "self", "self", "force")) for _ in sizes]
         self.med = [draw.chance(0.6) for _ in sizes]
@@ -111,7 +111,8 @@ class Maker:
         for link in self.links:
             for one in link.ends:
                 for other in link.ends:
-                    if one < other and self.of[one] != self.of[other] and (len(link.ends) == 2 or self.draw.chance(0.8)):
+                    if one < other and self.of[one] != self.of[other] and (
+                            len(link.ends) == 2 or self.draw.chance(0.8)):
                         found.setdefault((one, other), link)
         return found
 
@@ -311,7 +312,8 @@ class Text:
             lines.append("exit")
         if maker.mode == "ospf" and has_igp:
             lines.append("router ospf")
-            lines += [" redistribute connected" + draw.of(("", " metric 7", " metric 4 metric-type 1"))] * takes_connected
+            kind = draw.of(("", " metric 7", " metric 4 metric-type 1"))
+            lines += [f" redistribute connected{kind}"] * takes_connected
             lines += [f" passive-interface e{at}" for at, link in enumerate(maker.of_place(place))
                       if not maker.is_inside(link)]
             lines += networks + ["exit"]

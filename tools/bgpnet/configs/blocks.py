@@ -147,7 +147,8 @@ class Blocks:
         if action in ("foreign", "addresses", "warned", "ignored") and self.block == "config":
             self.router.foreign.add(self.place.line)
         if match.command.why and self.block == "route-map" and action not in ("undone", "cut"):
-            self.of_maps.setdefault(self.entry.map_name, []).append((self.place, f"'{line.strip()}': {match.command.why}"))
+            why = self.place, f"'{line.strip()}': {match.command.why}"
+            self.of_maps.setdefault(self.entry.map_name, []).append(why)
             return
         if match.command.why:
             self.refuse(f"'{line.strip()}': {match.command.why}")

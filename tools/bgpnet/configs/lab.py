@@ -60,8 +60,8 @@ class Lab:
         daemon = self.daemons[asn]
         libraries = ":".join(f"{self.trees[daemon.language]}/{one}" for one in LIBRARIES)
         with open(daemon.folder / log, "w") as out:
-            return subprocess.Popen(self.inside(asn, words), env=dict(os.environ, LD_LIBRARY_PATH=libraries), stdout=out,
-                                    stderr=subprocess.STDOUT, stdin=subprocess.DEVNULL)
+            return subprocess.Popen(self.inside(asn, words), env=dict(os.environ, LD_LIBRARY_PATH=libraries),
+                                    stdout=out, stderr=subprocess.STDOUT, stdin=subprocess.DEVNULL)
 
     # ---- namespaces
 

@@ -50,7 +50,8 @@ class Outside:
     def read_json(self, text):
         """What FRR prints of a neighbor's routes, or of a table: then those whose path begins with the AS."""
         for said in objects_of(text, self.name):
-            table = next((said[key] for key in TABLES if isinstance(said, dict) and isinstance(said.get(key), dict)), None)
+            found = [said.get(key) for key in TABLES] if isinstance(said, dict) else []
+            table = next((one for one in found if isinstance(one, dict)), None)
             if table is None:
                 raise Refusal(f"{self.name}: no routes as FRR prints them: none of {', '.join(TABLES)}")
             for word, routes in table.items():

@@ -56,7 +56,8 @@ class PolicyLines(Blocks):
         """Refuses an entry of a number that another form of entry has: of that FRR may leave something."""
         former = found.entries.get(number)
         if former and form_of(former.text) != form_of(text):
-            self.refuse(f"'{line.strip()}': {former.place} says something of another form by this number: leave one out")
+            self.refuse(f"'{line.strip()}': {former.place} says something of another form by this number: leave one "
+                        "out")
 
     @staticmethod
     def block_of(rest):

@@ -353,5 +353,5 @@ class Change:
             if before.get(key) != after.get(key):
                 asn, prefix = key
                 alike.setdefault((asn, after.get(key, ()), before.get(key, ())), []).append(prefix)
-        return found + [f"end {self.both.router_text(asn)} {', '.join(map(str, prefixes))} {self.both.path_text(new)}, was "
-                        f"{self.both.path_text(old)}" for (asn, new, old), prefixes in alike.items()]
+        return found + [f"end {self.both.router_text(asn)} {', '.join(map(str, prefixes))} {self.both.path_text(new)}, "
+                        f"was {self.both.path_text(old)}" for (asn, new, old), prefixes in alike.items()]
