@@ -611,7 +611,7 @@ def part_with_room(network: Network, events: Sequence[Event], shown: Shown, char
             least = middle
         else:
             most = middle - 1
-    ways = [f"--points {points}"] * bool(points) + [f"--to {numbers[least - 1]}"] * bool(least)
+    ways = [f"--points {points}"] * bool(points) + [f"--to {last}" for last in numbers[:least][-1:]]
     room = f": {' or '.join(ways)} has room" if ways else ""
     return f"{room}; --from, --from-line, --updates and --prefix show a part"
 
