@@ -11,11 +11,6 @@ import re
 import tarfile
 import zipfile
 
-try:
-    import tomllib
-except ImportError:  # before Python 3.11
-    from pip._vendor import tomli as tomllib
-
 TOP = pathlib.Path(__file__).resolve().parent.parent
 PACKAGE = TOP / "tools/bgpnet"
 WHEEL = "Wheel-Version: 1.0\nGenerator: bgpnet\nRoot-Is-Purelib: true\nTag: py3-none-any\n"
@@ -24,11 +19,16 @@ TIME = (1980, 1, 1, 0, 0, 0)
 
 def project():
     """What pyproject.toml says of the project, with its version."""
+    try:
+        import tomllib
+    except ImportError:  # before Python 3.11
+        from pip._vendor import tomli as tomllib
     said = tomllib.loads((TOP / "pyproject.toml").read_text())["project"]
     return {**said, "version": re.search('^__version__ = "(.*)"$', (PACKAGE / "__init__.py").read_text(), re.M)[1]}
 
 
 def files_of(folder):
+    """The files below a folder, without what Python compiled."""
     return [path for path in sorted(folder.rglob("*")) if path.is_file() and "__pycache__" not in path.parts]
 
 

@@ -14,7 +14,7 @@ Json = Mapping[str, Any]
 
 
 class Routes(Mapping[Tuple[int, Prefix], Path]):
-    """The path of each router for each prefix, `()` for none. In `routes[2, "10.1.0.0/16"]` the prefix may be a text."""
+    """Each router's path for each prefix, `()` for none. In `routes[2, "10.1.0.0/16"]` the prefix may be a text."""
 
     def __init__(self, paths: RouteDict) -> None:
         self._paths = dict(paths)
@@ -33,7 +33,8 @@ class Routes(Mapping[Tuple[int, Prefix], Path]):
         return hash(frozenset(self._paths.items()))
 
     def __repr__(self) -> str:
-        return "Routes(" + ", ".join(f"{router} {prefix} {path_text(path)}" for (router, prefix), path in self.items()) + ")"
+        rows = [f"{router} {prefix} {path_text(path)}" for (router, prefix), path in self.items()]
+        return f"Routes({', '.join(rows)})"
 
     def of(self, prefix: Prefix | str) -> dict[int, Path]:
         """The path of each router for one prefix."""
@@ -48,8 +49,8 @@ NO_ROUTES = Routes({})
 
 @dataclass(frozen=True)
 class Snapshot:
-    """How a snapshot came out: `verdict` is "settled", "moving" or "abandoned"; `why` says which fault or loss it is, of
-    which router and, where the fault has one, of which peer; a settled one has its routes."""
+    """How a snapshot came out: `verdict` is "settled", "moving" or "abandoned"; `why` says which fault or loss it is,
+    of which router and, where the fault has one, of which peer; a settled one has its routes."""
 
     number: int
     verdict: str
@@ -146,8 +147,8 @@ class StablePrefix:
         return replace(self, followers={router: in_order(router, paths) for router, paths in self.followers.items()})
 
     def assignments(self) -> Iterator[dict[int, Path]]:
-        """Each stable assignment, as the path of each router: of each dispute one of its choices, and of each router that
-        follows the first of its paths that goes on by that of its peer. None of a prefix of which nothing is said."""
+        """Each stable assignment, as the path of each router: of each dispute a choice, and of each router that follows
+        the first of its paths that goes on by that of its peer. None of a prefix of which nothing is said."""
         for chosen in itertools.product(*(dispute.choices for dispute in self.disputes)) if not self.unknown else ():
             paths = dict(self.paths)
             for dispute, choice in zip(self.disputes, chosen):
@@ -160,8 +161,8 @@ class StablePrefix:
 
 @dataclass(frozen=True, order=True)
 class Rim:
-    """A rim of a dispute wheel: a router that has `path` likes `better` more, which goes on by the path of the next rim,
-    that of the router `through`."""
+    """A rim of a dispute wheel: a router that has `path` likes `better` more, which goes on by the path of the next
+    rim, that of the router `through`."""
 
     path: Path
     better: Path
@@ -188,7 +189,8 @@ def read_check(lines: Sequence[str]) -> Judgement:
 
 def read_check_all(lines: Sequence[str]) -> dict[Prefix, tuple[Judgement, ...]]:
     """What `check --all` says: of each prefix each router that would move, none where it is stable."""
-    return {Prefix.read(rows[0][1]): tuple(read_check([" ".join(words)]) for words in rows[1:]) for rows in by_prefix(lines)}
+    return {Prefix.read(head[1]): tuple(read_check([" ".join(words)]) for words in rows)
+            for head, *rows in by_prefix(lines)}
 
 
 def by_prefix(lines: Sequence[str]) -> list[list[list[str]]]:
@@ -254,8 +256,8 @@ class Flight:
 
 @dataclass(frozen=True)
 class Cut:
-    """What a snapshot saw: whether it was decided and not abandoned; how many of the events stand inside it, and how many
-    there are; the routes that were recorded, and the UPDATEs in flight."""
+    """What a snapshot saw: whether it was decided and not abandoned; how many of the events stand inside it, and how
+    many there are; the routes that were recorded, and the UPDATEs in flight."""
 
     snapshot: int
     seen: bool
@@ -342,8 +344,8 @@ def known_of(lines: Sequence[str]) -> Known:
     words = lines[0].split()
     heard = [heard_of(*line.split(": ", 1)) for line in lines[1:] if line.split()[0] == "from"]
     told = [tuple(map(int, line.split()[1:])) for line in lines[1:] if line.split()[0] == "told"]
-    return Known(Prefix.read(words[1]), read_path(words[3].rstrip(",")), lines[0].endswith(", originated"), tuple(heard),
-                 told[0] if told else ())
+    return Known(Prefix.read(words[1]), read_path(words[3].rstrip(",")), lines[0].endswith(", originated"),
+                 tuple(heard), told[0] if told else ())
 
 
 def heard_of(said: str, what: str) -> Heard:
@@ -359,7 +361,8 @@ def heard_of(said: str, what: str) -> Heard:
 # ---- as JSON
 
 def routes_json(routes: Mapping[Tuple[int, Prefix], Path]) -> list[Json]:
-    return [{"router": router, "prefix": str(prefix), "path": path_text(path)} for (router, prefix), path in routes.items()]
+    return [{"router": router, "prefix": str(prefix), "path": path_text(path)}
+            for (router, prefix), path in routes.items()]
 
 
 def snapshot_json(one: Snapshot) -> Json:
@@ -378,8 +381,9 @@ def play_json(lines: Sequence[str]) -> Json:
 
 def check_json(lines: Sequence[str]) -> Json:
     if lines[0].startswith("prefix "):
-        return {"prefixes": [{"prefix": str(prefix), "stable": not moving, "unstable": list(map(judgement_json, moving))}
-                             for prefix, moving in read_check_all(lines).items()]}
+        return {"prefixes": [
+            {"prefix": str(prefix), "stable": not moving, "unstable": list(map(judgement_json, moving))}
+            for prefix, moving in read_check_all(lines).items()]}
     found = read_check(lines)
     return {"stable": True} if found.stable else {"stable": False, **judgement_json(found)}
 
@@ -400,7 +404,8 @@ def stable_prefix_json(one: StablePrefix) -> Json:
             "disputes": [{"stable": dispute.count, "routers": list(dispute.routers),
                           "choices": [list(map(path_text, choice)) for choice in dispute.choices]}
                          for dispute in one.disputes],
-            "follow": [{"router": router, "paths": list(map(path_text, paths))} for router, paths in one.followers.items()]}
+            "follow": [{"router": router, "paths": list(map(path_text, paths))}
+                       for router, paths in one.followers.items()]}
 
 
 def cut_json(lines: Sequence[str]) -> Json:
@@ -450,8 +455,8 @@ def run_json(lines: Sequence[str]) -> Json:
 
 
 FORMS: Mapping[str, Callable[[Sequence[str]], Json]] = {
-    "play": play_json, "check": check_json, "stable": stable_json, "cut": cut_json, "why": why_json, "decode": decode_json,
-    "trace": trace_json, "record": trace_json, "run": run_json}
+    "play": play_json, "check": check_json, "stable": stable_json, "cut": cut_json, "why": why_json,
+    "decode": decode_json, "trace": trace_json, "record": trace_json, "run": run_json}
 
 
 def counts_json(trace: Sequence[str]) -> Json:

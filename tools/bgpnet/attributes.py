@@ -12,12 +12,11 @@ MP_REACH_NLRI, MP_UNREACH_NLRI, AS4_PATH, LARGE_COMMUNITY = 14, 15, 17, 32
 # The codes of IANA.
 NAMES = {ORIGIN: "ORIGIN", AS_PATH: "AS_PATH", NEXT_HOP: "NEXT_HOP", MULTI_EXIT_DISC: "MULTI_EXIT_DISC",
          LOCAL_PREF: "LOCAL_PREF", ATOMIC_AGGREGATE: "ATOMIC_AGGREGATE", AGGREGATOR: "AGGREGATOR",
-         COMMUNITIES: "COMMUNITIES", 9: "ORIGINATOR_ID", 10: "CLUSTER_LIST",
-         MP_REACH_NLRI: "MP_REACH_NLRI", MP_UNREACH_NLRI: "MP_UNREACH_NLRI", 16: "EXTENDED_COMMUNITIES", AS4_PATH: "AS4_PATH",
-         18: "AS4_AGGREGATOR", 22: "PMSI_TUNNEL", 23: "TUNNEL_ENCAPSULATION", 24: "TRAFFIC_ENGINEERING",
-         25: "IPV6_EXTENDED_COMMUNITIES", 26: "AIGP", 27: "PE_DISTINGUISHER_LABELS", 29: "BGP-LS",
-         LARGE_COMMUNITY: "LARGE_COMMUNITY", 33: "BGPSEC_PATH", 35: "ONLY_TO_CUSTOMER", 37: "SFP", 38: "BFD_DISCRIMINATOR",
-         40: "BGP_PREFIX-SID", 128: "ATTR_SET"}
+         COMMUNITIES: "COMMUNITIES", 9: "ORIGINATOR_ID", 10: "CLUSTER_LIST", MP_REACH_NLRI: "MP_REACH_NLRI",
+         MP_UNREACH_NLRI: "MP_UNREACH_NLRI", 16: "EXTENDED_COMMUNITIES", AS4_PATH: "AS4_PATH", 18: "AS4_AGGREGATOR",
+         22: "PMSI_TUNNEL", 23: "TUNNEL_ENCAPSULATION", 24: "TRAFFIC_ENGINEERING", 25: "IPV6_EXTENDED_COMMUNITIES",
+         26: "AIGP", 27: "PE_DISTINGUISHER_LABELS", 29: "BGP-LS", LARGE_COMMUNITY: "LARGE_COMMUNITY", 33: "BGPSEC_PATH",
+         35: "ONLY_TO_CUSTOMER", 37: "SFP", 38: "BFD_DISCRIMINATOR", 40: "BGP_PREFIX-SID", 128: "ATTR_SET"}
 ORIGINS = {0: "", 1: " EGP", 2: " INCOMPLETE"}
 EXTENDED_LENGTH = 0x10
 
@@ -30,13 +29,13 @@ class Segment(NamedTuple):
 
 
 class Update:
-    """The parts of an UPDATE's body: whether prefixes are withdrawn and announced, and the value of each attribute, by
-    code and in the order of the message. `struct.error` or `IndexError` where a part is not whole."""
+    """The parts of an UPDATE's body: the octets of the prefixes that are withdrawn and announced, and the value of each
+    attribute, by code and in the order of the message. `struct.error` or `IndexError` where a part is not whole."""
 
     def __init__(self, body: Octets) -> None:
         size = struct.unpack_from(">H", body)[0]
         end = 4 + size + struct.unpack_from(">H", body, 2 + size)[0]
-        self.withdraws, self.announces = size > 0, len(body) > end
+        self.withdrawn, self.announced = body[2:2 + size], body[end:]
         self.attributes = attributes_of(body, 4 + size, end)
 
 
@@ -60,11 +59,11 @@ def remark_of(body: Octets, width: int, identified: Collection[str] = ()) -> str
     identifiers."""
     update = Update(body)
     attributes = update.attributes
-    if not update.withdraws and not update.announces:
+    if not update.withdrawn and not update.announced:
         ended = family_of_end(attributes)
         if ended:
             return f"End-of-RIB {ended}"
-    said = {AS_PATH, NEXT_HOP} if update.announces else set()
+    said = {AS_PATH, NEXT_HOP} if update.announced else set()
     if attributes.get(ORIGIN) == b"\0":
         said.add(ORIGIN)
     codes = sorted((code for code in attributes if code not in said), key=lambda code: code <= NEXT_HOP)
@@ -74,8 +73,8 @@ def remark_of(body: Octets, width: int, identified: Collection[str] = ()) -> str
 
 
 def merged_path(attributes: Mapping[int, bytes]) -> str | None:
-    """The path that AS_PATH and AS4_PATH say together (RFC 6793 section 4.2.3), None where there is no AS4_PATH, or it is
-    not used: it has more numbers than AS_PATH, or can't be read."""
+    """The path that AS_PATH and AS4_PATH say together (RFC 6793 section 4.2.3), None where there is no AS4_PATH, or it
+    is not used: it has more numbers than AS_PATH, or can't be read."""
     try:
         old, new = (segments_of(attributes[code], width) for code, width in ((AS_PATH, 2), (AS4_PATH, 4)))
     except (KeyError, struct.error, IndexError, ValueError):

@@ -2,9 +2,11 @@
 from __future__ import annotations
 
 import random
-from typing import Any, Iterator, Mapping, Tuple
+from collections import Counter
+from typing import Any, Iterator, Tuple
 
-from bgpnet.network import LONGEST_PATH, Network, Path, Prefix, RouteDict, path_text
+from bgpnet.live import Chooser
+from bgpnet.network import Network, Path, Prefix, RouteDict, path_text
 from bgpnet.playing import judgement
 from bgpnet.program import Program, Refusal
 
@@ -22,59 +24,34 @@ def check_alike(network: Network, other: Network, name: str) -> None:
         raise Refusal(f"{name}: other origins than those of the first network")
 
 
-class Becoming:
-    """What routers choose in a network that begins in the routes of another one. Those that they may not use, or that no
-    peer has, are lost at once; then one router after the other takes the best that its peers have."""
+def end_of(network: Network, prefix: Prefix, routes: RouteDict, seed: int = 0) -> End | None:
+    """The paths in which a network rests that begins in the routes of another one, or None. Those that routers
+    may not use, or that no peer has, are lost at once; then one after the other takes the best that its peers
+    have, with a seed in a random order, else in that of their numbers."""
+    draw, chooser = random.Random(seed), Chooser(network, prefix)
+    chosen: dict[int, Path] = {
+        router: path if len(path) < 2 or path[1] in network.peers[router] and
+        chooser.preferences[router].permits(path) else ()
+        for router in network.routers for path in [routes[router, prefix]]}
 
-    def __init__(self, network: Network) -> None:
-        self.network = network
+    def best(router: int) -> Path:
+        return chooser.best(router, [chosen[peer] for peer in network.peers[router]])
 
-    def place(self, router: int, prefix: Prefix, path: Path) -> tuple[int, Path] | None:
-        """Where a path stands for a router, None where it may not use it."""
-        ranked = self.network.ranked(router, prefix)
-        if ranked is None:
-            return (len(path), path) if len(path) <= LONGEST_PATH else None
-        return (ranked.index(path), path) if path in ranked else None
+    for _ in range(MOST_ROUNDS):
+        if all(best(router) == path for router, path in chosen.items()):
+            return tuple(chosen.items())
+        order = [int(draw.random() * len(network.routers)) for _ in network.routers] if seed else \
+            list(range(len(network.routers)))
+        for at in order:
+            chosen[network.routers[at]] = best(network.routers[at])
+    return None
 
-    def best(self, router: int, prefix: Prefix, chosen: Mapping[int, Path]) -> Path:
-        """The best path that a router's peers leave it."""
-        if router == self.network.origins[prefix]:
-            return (router,)
-        offered = [(router,) + chosen[peer] for peer in self.network.peers[router]
-                   if chosen[peer] and router not in chosen[peer]]
-        places = [place for place in (self.place(router, prefix, path) for path in offered) if place is not None]
-        return min(places)[1] if places else ()
 
-    def end(self, prefix: Prefix, routes: RouteDict, seed: int = 0) -> dict[int, Path] | None:
-        """The paths in which the routers rest that begin in some routes, or None. With a seed they choose in a random
-        order, else in that of their numbers."""
-        network, draw = self.network, random.Random(seed)
-        chosen: dict[int, Path] = {
-            router: path if len(path) < 2 or path[1] in network.peers[router] and
-            self.place(router, prefix, path) is not None else ()
-            for router in network.routers for path in [routes[router, prefix]]}
-        for _ in range(MOST_ROUNDS):
-            if all(self.best(router, prefix, chosen) == path for router, path in chosen.items()):
-                return chosen
-            order = [int(draw.random() * len(network.routers)) for _ in network.routers] if seed else \
-                list(range(len(network.routers)))
-            for at in order:
-                router = network.routers[at]
-                chosen[router] = self.best(router, prefix, chosen)
-        return None
-
-    def ends(self, prefix: Prefix, routes: RouteDict, orders: int) -> tuple[dict[End, int], int]:
-        """The ends of all orders that are tried, each with their number, and how many do not rest."""
-        found: dict[End, int] = {}
-        restless = 0
-        for seed in range(orders + 1):
-            end = self.end(prefix, routes, seed)
-            if end is None:
-                restless += 1
-            else:
-                key = tuple(end.items())
-                found[key] = found.get(key, 0) + 1
-        return dict(sorted(found.items(), key=lambda one: -one[1])), restless
+def ends_of(network: Network, prefix: Prefix, routes: RouteDict, orders: int) -> tuple[dict[End, int], int]:
+    """The ends of all orders that are tried, each with their number, and how many do not rest."""
+    found: Counter[End | None] = Counter(end_of(network, prefix, routes, seed) for seed in range(orders + 1))
+    restless = found.pop(None, 0)
+    return {end: number for end, number in found.most_common() if end is not None}, restless
 
 
 class Change:
@@ -82,7 +59,7 @@ class Change:
 
     def __init__(self, program: Program, network: Network, prefix: Prefix, routes: RouteDict, orders: int) -> None:
         self.prefix, self.network, self.routes, self.orders = prefix, network, routes, orders + 1
-        self.ends, self.restless = Becoming(network).ends(prefix, routes, orders)
+        self.ends, self.restless = ends_of(network, prefix, routes, orders)
         self.said = [judgement(program, network, prefix, dict(end)) for end in self.ends]
 
     def moved(self, end: End) -> list[tuple[int, Path, Path]]:

@@ -5,7 +5,7 @@ import heapq
 import re
 import struct
 from dataclasses import dataclass
-from typing import Iterable, Iterator, Optional, Tuple, Union
+from typing import Iterable, Iterator, Optional, Sequence, Tuple, Union
 
 from bgpnet.messages import Octets
 from bgpnet.program import Refusal
@@ -43,41 +43,32 @@ def frames_of_records(data: Octets, order: str, unit: int, losses: list[str]) ->
     if len(data) < 24:
         raise Refusal("the capture ends in its head")
     link = struct.unpack_from(order + "I", data, 20)[0] & 0xFFFF
-    at, number, short = 24, 0, Short(losses)
+    at, number = 24, 0
+    short: list[int] = []
     while at < len(data):
         number += 1
         seconds, fraction, size = struct.unpack_from(order + "III", data, at) if at + 16 <= len(data) else (0, 0, 0)
         if at + 16 + size > len(data):
             losses.append(f"the capture ends in the middle of packet {number}")
-        elif at + 16 < len(data):
-            short.see(size, struct.unpack_from(order + "I", data, at + 12)[0])
+        elif at + 16 < len(data) and size < struct.unpack_from(order + "I", data, at + 12)[0]:
+            short.append(size)
         if at + 16 < len(data):
             yield link, data[at + 16:at + 16 + size], seconds * SECOND + fraction * unit
         at += 16 + size
-    short.tell()
+    losses += short_losses(short)
 
 
-class Short:
-    """Packets of which less was kept than there was."""
-
-    def __init__(self, losses: list[str]) -> None:
-        self.losses, self.number, self.most = losses, 0, 0
-
-    def see(self, kept: int, whole: int) -> None:
-        if kept < whole:
-            self.number, self.most = self.number + 1, max(self.most, kept)
-
-    def tell(self) -> None:
-        """Says how many there are."""
-        if self.number:
-            self.losses.append(f"{self.number} packet{'s' * (self.number > 1)} of the capture cut short, at {self.most} "
-                               "octets at most: capture whole ones (tcpdump -s 0)")
+def short_losses(short: Sequence[int]) -> list[str]:
+    """What is said of packets of which less was kept than there was, by how much was kept."""
+    return [f"{len(short)} packet{'s' * (len(short) > 1)} of the capture cut short, at {max(short)} octets at most: "
+            "capture whole ones (tcpdump -s 0)"] if short else []
 
 
 def frames_of_blocks(data: Octets, losses: list[str]) -> Iterator[Frame]:
     """Those of a pcapng file, whose blocks are in sections, each with its byte order and its interfaces."""
-    at, number, order, short = 0, 0, "<", Short(losses)
+    at, number, order = 0, 0, "<"
     interfaces: list[Interface] = []
+    short: list[int] = []
     while at < len(data):
         number += 1
         if data[at:at + 4] == b"\x0a\x0d\x0d\x0a":
@@ -90,16 +81,18 @@ def frames_of_blocks(data: Octets, losses: list[str]) -> Iterator[Frame]:
         if size < 12 or size % 4:
             losses.append(f"block {number} has a size of {size}; what stands behind it is not read")
             break
+        kept = whole = 0
         if kind in (2, 6) and size >= 32:
-            short.see(*struct.unpack_from(order + "II", data, at + 20))
+            kept, whole = struct.unpack_from(order + "II", data, at + 20)
         elif kind == 3 and size >= 16 and interfaces and interfaces[0][1]:
-            whole = struct.unpack_from(order + "I", data, at + 8)[0]
-            short.see(min(whole, interfaces[0][1]), whole)
+            kept, whole = interfaces[0][1], struct.unpack_from(order + "I", data, at + 8)[0]
+        if kept < whole:
+            short.append(kept)
         frame = frame_of_block(order, kind, data[at + 8:at + size - 4], interfaces)
         if frame:
             yield frame
         at += size
-    short.tell()
+    losses += short_losses(short)
 
 
 def frame_of_block(order: str, kind: int, body: Octets, interfaces: list[Interface]) -> Frame | None:

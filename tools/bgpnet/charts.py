@@ -85,7 +85,7 @@ class Shown:
 
 
 class Element(NamedTuple):
-    """An element of the picture: the place that says in which column it stands, its tag, its text and its attributes."""
+    """An element of the picture: the place that says in which column it stands, its tag, text and attributes."""
 
     at: float
     tag: str
@@ -192,8 +192,8 @@ class Chart:
         self.owner = owner
         self.numbers.append(number)
         if self.rows > MOST_ROWS:
-            raise Refusal(f"more than {MOST_ROWS} rows: --to {self.last_event()} has room; --from, --updates and --prefix show a "
-                          "part too")
+            raise Refusal(f"more than {MOST_ROWS} rows: --to {self.last_event()} has room; --from, --updates and "
+                          "--prefix show a part too")
         return self.y
 
     def last_event(self) -> int:
@@ -411,19 +411,14 @@ class Chart:
                 self.owner = None  # what follows stands below it
 
     def event(self, event: Event) -> None:
-        if event.words[0] == "put":
-            self.put(event)
-        elif event.words[0] == "take":
-            self.take(event)
-        elif event.words[0] == "handle":
-            self.handle(event)
-        elif event.words[0] == "advertise":
-            self.tells(event)
-        elif self.shows(event):
-            if event.words[0] in COMMANDS and not (self.shown.updates and event.words[0] == "start"):
-                self.command(event)
-            elif event.words[0] == "tick":
-                self.seconds[event.words[1]] = self.seconds.get(event.words[1], 0) + 1
+        word = event.words[0]
+        act = {"put": self.put, "take": self.take, "handle": self.handle, "advertise": self.tells}.get(word)
+        if act:
+            act(event)
+        elif self.shows(event) and word in COMMANDS and not (self.shown.updates and word == "start"):
+            self.command(event)
+        elif self.shows(event) and word == "tick":
+            self.seconds[event.words[1]] = self.seconds.get(event.words[1], 0) + 1
         if self.shows(event):
             self.said(event)
 
@@ -482,7 +477,8 @@ class Chart:
         elif kind == "put":
             canvas.add("circle", class_="sample", style=f"fill: {COLOURS['announce']}", cx=x + 12, cy=y, r=3.5)
         elif kind == "kept":
-            canvas.add("rect", class_="sample", style="fill: #e3f0f8; stroke: #0072b2", x=x, y=y - 7, width=24, height=14)
+            canvas.add("rect", class_="sample", style="fill: #e3f0f8; stroke: #0072b2", x=x, y=y - 7, width=24,
+                       height=14)
         elif kind == "recording":
             canvas.add("rect", class_="sample", style="fill: #8430ce", x=x + 7, y=y - 5, width=10, height=10)
         elif kind == "event":
@@ -601,7 +597,8 @@ def chart_of(network: Network, events: Iterable[Event], shown: Shown) -> Chart:
     return chart
 
 
-def part_with_room(network: Network, events: Sequence[Event], shown: Shown, chart: Chart, verdicts: Sequence[str]) -> str:
+def part_with_room(network: Network, events: Sequence[Event], shown: Shown, chart: Chart,
+                   verdicts: Sequence[str]) -> str:
     """The words that make room on a slide: smaller letters, as many events from the first on as have room, and what
     shows less."""
     points = next((points for points in range(shown.points - 1, LEAST_POINTS - 1, -1)
@@ -614,7 +611,7 @@ def part_with_room(network: Network, events: Sequence[Event], shown: Shown, char
             least = middle
         else:
             most = middle - 1
-    ways = [f"--points {points}"] * bool(points) + [f"--to {numbers[least - 1]}"] * bool(least)
+    ways = [f"--points {points}"] * bool(points) + [f"--to {last}" for last in numbers[:least][-1:]]
     room = f": {' or '.join(ways)} has room" if ways else ""
     return f"{room}; --from, --from-line, --updates and --prefix show a part"
 

@@ -8,8 +8,8 @@ from dataclasses import dataclass
 from typing import Iterator, List, Sequence, Tuple, Union
 
 from bgpnet import attributes
-from bgpnet.messages import (HEAD, NOTIFICATION, OPEN, REFRESH_HEAD, ROUTE_REFRESH, UPDATE, Message, Octets, messages_of,
-                             refresh_text)
+from bgpnet.messages import (HEAD, NOTIFICATION, OPEN, REFRESH_HEAD, ROUTE_REFRESH, UPDATE, Message, Octets,
+                             messages_of, refresh_text)
 from bgpnet.names import capability_text, notification_text
 from bgpnet.network import Prefix
 from bgpnet.program import Program, Refusal
@@ -114,8 +114,8 @@ class Capability:
 
 @dataclass(frozen=True)
 class Open:
-    """An OPEN: the AS number that it says (its AS field, or with numbers of four octets that of capability 65), the hold
-    time in seconds, the BGP Identifier, and the capabilities in their order."""
+    """An OPEN: the AS number that it says (its AS field, or with numbers of four octets that of capability 65), the
+    hold time in seconds, the BGP Identifier, and the capabilities in their order."""
 
     asn: int
     hold: int
@@ -198,8 +198,8 @@ class Decoded:
 
 
 def decode(program: Program, octets: bytes, width: int = 2, peer: int | None = None) -> Decoded:
-    """The messages that octets spell. `width` is that of AS numbers, 2 or 4; an OPEN, and the first number of a path, are
-    checked against the AS number `peer`, if one is given."""
+    """The messages that octets spell. `width` is that of AS numbers, 2 or 4; an OPEN, and the first number of a path,
+    are checked against the AS number `peer`, if one is given."""
     if width not in WORDS:
         raise Refusal(f"AS numbers have 2 or 4 octets, and not {width}")
     said = decoded(program, width, octets, 0, [] if peer is None else ["--peer", str(peer)])
@@ -256,7 +256,8 @@ def update_of(words: Sequence[str], body: bytes, width: int) -> Update:
         number(attributes.MULTI_EXIT_DISC), number(attributes.LOCAL_PREF), attributes.ATOMIC_AGGREGATE in said,
         (int(aggregator[0]), aggregator[1]) if aggregator else None, tuple(said.get(attributes.COMMUNITIES, ())),
         tuple(said.get(attributes.LARGE_COMMUNITY, ())),
-        tuple(Attribute(code, value, attributes.attribute_text(code, value, width, ())) for code, value in values.items()))
+        tuple(Attribute(code, value, attributes.attribute_text(code, value, width, ()))
+              for code, value in values.items()))
 
 
 def prefixes_behind(word: str, words: Sequence[str]) -> tuple[Prefix, ...]:

@@ -221,10 +221,10 @@ Change = Tuple[int, Path, Path]
 
 @dataclass(frozen=True)
 class Seen:
-    """What became of a prefix in a state, of whose routes `check` says this: the routers whose path is another than in the
-    state before it, and those whose path is another than before anything failed, each with the two paths; the routers
-    without one, those of them that no links lead to, and those that had one before anything failed; and how many
-    UPDATEs were told."""
+    """What became of a prefix in a state, of whose routes `check` says this: the routers whose path is another than in
+    the state before it, and those whose path is another than before anything failed, each with the two paths; the
+    routers without one, those of them that no links lead to, and those that had one before anything failed; and how
+    many UPDATEs were told."""
 
     origin: int
     said: Said

@@ -33,8 +33,8 @@ def verdict_captions(network: Network, lines: Iterable[str]) -> list[layout.Capt
 def drawn_routes(program: Program, network: Network, prefix: Prefix | None,
                  routes: Mapping[tuple[int, Prefix], Path], state: State | None = None, title: str = "",
                  rules: bool = True) -> layout.Drawn:
-    """What is drawn of the routes of a prefix, with what `check` says of them, and with what is down and on its way in a
-    state."""
+    """What is drawn of the routes of a prefix, with what `check` says of them, and with what is down and on its way in
+    a state."""
     broken: Collection[Ends] = state.broken if state else ()
     waiting = state.waiting[prefix] if state and prefix else 0
     chosen = {router: path for (router, own), path in routes.items() if own == prefix}
@@ -58,8 +58,8 @@ class Step:
 
 @dataclass(frozen=True)
 class Shown:
-    """What a film shows: the prefix, without one the first of the network; the steps, by their numbers, of which each is
-    one order where `each` is so; whether rules and routes stand beside the routers."""
+    """What a film shows: the prefix, without one the first of the network; the steps, by their numbers, of which each
+    is one order where `each` is so; whether rules and routes stand beside the routers."""
 
     prefix: str | None = None
     each: bool = False
@@ -133,7 +133,8 @@ def drawn_steps(program: Program, network: Network, prefix: Prefix, played: Sequ
         if moment.waiting[prefix] or not any(is_good for _, is_good in captions):
             captions += captions_of(network, judged, unstable, moment.waiting[prefix])
         title = f"{at}. {title_of(network, step)}"
-        yield layout.Drawn(prefix, routes, unstable, moment.broken, changed, title, captions, moment.silent, shown.rules)
+        yield layout.Drawn(prefix, routes, unstable, moment.broken, changed, title, captions, moment.silent,
+                           shown.rules)
 
 
 def film_of(program: Program, network: Network, text: str, name: str, shown: Shown = Shown()) -> str:

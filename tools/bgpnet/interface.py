@@ -11,9 +11,9 @@ from dataclasses import dataclass, field
 from typing import Any, Iterable, Mapping, Sequence, Tuple, Union
 
 from bgpnet import charts, decoding, films, network as texts, playing, settling
-from bgpnet.answers import (Cut, Dispute, Flight, Heard, Judgement, Known, Played, Rim, Routes, SafePrefix, Session, Settled,
-                            Snapshot, StablePrefix, Why, read_check, read_cut, read_play, read_run, read_safe, read_stable,
-                            read_why)
+from bgpnet.answers import (Cut, Dispute, Flight, Heard, Judgement, Known, Played, Rim, Routes, SafePrefix, Session,
+                            Settled, Snapshot, StablePrefix, Why, read_check, read_cut, read_play, read_run, read_safe,
+                            read_stable, read_why)
 from bgpnet.decoding import (Attribute, Capability, Decoded, Fault, Keepalive, Notification, Open, RouteRefresh, Update)
 from bgpnet.failures import Failure, Player, Seen, StateBehind, seen_in
 from bgpnet.live import Preference
@@ -22,11 +22,12 @@ from bgpnet.program import Program, Refusal, Refused, found_program, read_octets
 from bgpnet.tracing import Again, Event, counts_of, events_of, orders_of, rest_bound, rows_of
 
 __all__ = [
-    "Aftermath", "Again", "Assignment", "Attribute", "Capability", "Consequence", "Cut", "Decoded", "Dispute", "Ends", "Event",
-    "Fault", "Flight", "Heard", "Judgement", "Keepalive", "Known", "Network", "Notification", "Open", "OrderEnd", "Path",
-    "Picture", "Played", "Prefix", "PrefixEnds", "Program", "Refusal", "Refused", "Rim", "RouteRefresh", "Routes", "SafePrefix",
-    "Schedule", "Seen", "Session", "Settled", "Snapshot", "StablePrefix", "State", "Trace", "Update", "Why", "build_network",
-    "decode", "read_assignment", "read_configurations", "read_network", "read_schedule"]
+    "Aftermath", "Again", "Assignment", "Attribute", "Capability", "Consequence", "Cut", "Decoded", "Dispute", "Ends",
+    "Event", "Fault", "Flight", "Heard", "Judgement", "Keepalive", "Known", "Network", "Notification", "Open",
+    "OrderEnd", "Path", "Picture", "Played", "Prefix", "PrefixEnds", "Program", "Refusal", "Refused", "Rim",
+    "RouteRefresh", "Routes", "SafePrefix", "Schedule", "Seen", "Session", "Settled", "Snapshot", "StablePrefix",
+    "State", "Trace", "Update", "Why", "build_network", "decode", "read_assignment", "read_configurations",
+    "read_network", "read_schedule"]
 
 # A path as a program gives one: its routers, or a text such as "2-3-1" or "none"; a link so, or as "1-2", by numbers or
 # names.
@@ -61,11 +62,6 @@ def read_file(path: str) -> str:
     return read_octets(path).decode("utf-8", "surrogateescape")
 
 
-def whole_lines(text: str) -> str:
-    """A text whose last line has an end."""
-    return text if text.endswith("\n") or not text else text + "\n"
-
-
 @dataclass(frozen=True)
 class Picture:
     """A picture, as the text of an SVG file. A notebook shows it."""
@@ -84,8 +80,8 @@ class Picture:
 
 @dataclass(frozen=True)
 class Network:
-    """A network that the program takes. `text` has its lines, comments too, and no section behind them; refusals call it
-    by `name`. A notebook shows a picture of it."""
+    """A network that the program takes. `text` has its lines, comments too, and no section behind them; refusals call
+    it by `name`. A notebook shows a picture of it."""
 
     text: str = field(repr=False)
     name: str = "network"
@@ -93,7 +89,8 @@ class Network:
     facts: texts.Network = field(init=False, repr=False, compare=False)
 
     def __post_init__(self) -> None:
-        object.__setattr__(self, "text", whole_lines(self.text))
+        if not self.text.endswith("\n") and self.text:
+            object.__setattr__(self, "text", self.text + "\n")
         facts, section, _ = texts.read_network(self.program, as_octets(self.text), self.name)
         if section:
             raise Refusal(f"{self.name}: behind the network stands a line `{section}`: read_{section} takes both")
@@ -176,8 +173,8 @@ class Network:
         return Schedule(self, tuple(orders.splitlines() if isinstance(orders, str) else orders))
 
     def settle(self, most: int = 100, play: int | None = None, jobs: int = 1) -> Ends:
-        """In which routes the network can rest, whether there is a dispute wheel, and what follows, as tools/settle says
-        it: `most` assignments of a prefix. With `play` two orders and so many random ones are played, so many at a
+        """In which routes the network can rest, whether there is a dispute wheel, and what follows, as tools/settle
+        says it: `most` assignments of a prefix. With `play` two orders and so many random ones are played, so many at a
         time. Refuses where the program does not confirm what is found."""
         if not self.facts.origins:
             raise Refusal(f"{self.name}: no origin, so no routes")
@@ -221,7 +218,8 @@ class Network:
                               f"{', '.join(map(self.facts.link_text, down))}")
         return Player(self.program, self.facts, list(begin.orders) if begin else None, orders)
 
-    def _failure(self, fail: GivenLink | Iterable[GivenLink], crash: int | str | None, silent: GivenLink | None) -> Failure:
+    def _failure(self, fail: GivenLink | Iterable[GivenLink], crash: int | str | None,
+                 silent: GivenLink | None) -> Failure:
         links = [self.link(one) for one in given_links(fail)]
         if bool(links) + (crash is not None) + (silent is not None) != 1:
             raise Refusal("one of `fail`, `crash` and `silent` is given")
@@ -276,7 +274,7 @@ def given_links(given: GivenLink | Iterable[GivenLink]) -> list[GivenLink]:
 
 @dataclass(frozen=True)
 class Schedule:
-    """A network and a schedule for it: the lines of its orders, comments too. A notebook shows what stands at its end."""
+    """A network and the lines of a schedule for it, comments too. A notebook shows what stands at its end."""
 
     network: Network
     orders: Tuple[str, ...] = field(repr=False)
@@ -306,7 +304,8 @@ class Schedule:
         lines = self._answer("trace")
         rows = list(rows_of(lines))
         ended = [row.rest for row in rows if row.is_of_rounds]
-        return Trace(tuple(events_of(lines, orders_of(self.text))), counts_of(rows).updates, ended[-1] if ended else None)
+        events = tuple(events_of(lines, orders_of(self.text)))
+        return Trace(events, counts_of(rows).updates, ended[-1] if ended else None)
 
     def state(self) -> State:
         """What stands at its end."""
@@ -333,8 +332,8 @@ class Schedule:
 
 @dataclass(frozen=True)
 class Trace:
-    """A run: its events, each with what was said of it; how many UPDATEs were told; and behind which round its last line
-    of rounds rested, None where it did not, or there is none."""
+    """A run: its events, each with what was said of it; how many UPDATEs were told; and behind which round its last
+    line of rounds rested, None where it did not, or there is none."""
 
     events: Tuple[Event, ...]
     updates: int
@@ -370,10 +369,10 @@ class State:
 
     def draw(self, prefix: GivenPrefix | None = None, title: str = "", rules: bool = True) -> Picture:
         """A picture of it, as tools/draw draws it: the routes of a prefix, what is down, and what `check` says."""
-        network = self.network
-        chosen = playing.chosen_prefix(network.facts, None if prefix is None else str(prefix))
-        drawn = films.drawn_routes(network.program, network.facts, chosen, self.behind.routes, self.behind, title, rules)
-        return Picture(films.svg_of(network.facts, chosen, [drawn]))
+        program, facts = self.network.program, self.network.facts
+        chosen = playing.chosen_prefix(facts, None if prefix is None else str(prefix))
+        drawn = films.drawn_routes(program, facts, chosen, self.behind.routes, self.behind, title, rules)
+        return Picture(films.svg_of(facts, chosen, [drawn]))
 
     def _repr_svg_(self) -> str:
         return self.draw().svg
@@ -404,9 +403,9 @@ class Assignment:
 
 @dataclass(frozen=True)
 class PrefixEnds:
-    """In which routes a prefix can come to rest: the stable assignments, and whether these are all; the rims of a dispute
-    wheel; what follows, in words, and as the status of tools/settle: 0 for one end in every order, 3 where a search gave
-    up, 4 for one assignment and a wheel, 5 for several, 6 for none."""
+    """In which routes a prefix can come to rest: the stable assignments, and whether these are all; the rims of a
+    dispute wheel; what follows, in words, and as the status of tools/settle: 0 for one end in every order, 3 where a
+    search gave up, 4 for one assignment and a wheel, 5 for several, 6 for none."""
 
     prefix: Prefix
     origin: int
@@ -438,8 +437,8 @@ class Ends:
 
 def prefix_ends(found: settling.Found) -> PrefixEnds:
     verdict, status = found.verdict
-    return PrefixEnds(found.prefix, found.origin, tuple(found.assignments[:found.most]), found.are_all, tuple(found.wheel),
-                      verdict, status)
+    return PrefixEnds(found.prefix, found.origin, tuple(found.assignments[:found.most]), found.are_all,
+                      tuple(found.wheel), verdict, status)
 
 
 @dataclass(frozen=True)
@@ -502,10 +501,11 @@ def build_network(links: Iterable[Link], origins: Mapping[GivenPrefix, int],
                   rules: Mapping[tuple[int, GivenPrefix], Iterable[GivenPath]] | None = None,
                   routers: Iterable[int] = (), hold: int | None = None, cut: int | None = None, name: str = "network",
                   program: Program | None = None) -> Network:
-    """A network of these links and origins, and of rules by router and prefix, the best path first. A router is named by
-    its AS number; it has the BGP Identifier 10.0.0.N, where N is its place among all, rising."""
+    """A network of these links and origins, and of rules by router and prefix, the best path first. A router is named
+    by its AS number; it has the BGP Identifier 10.0.0.N, where N is its place among all, rising."""
     links, rules = list(links), dict(rules or {})
-    known = sorted({*routers, *(end for link in links for end in link), *origins.values(), *(router for router, _ in rules)})
+    ends = (end for link in links for end in link)
+    known = sorted({*routers, *ends, *origins.values(), *(router for router, _ in rules)})
     lines = ["asn 4"] * any(router > texts.GREATEST_OF_TWO_OCTETS for router in known)
     lines += [f"{word} {value}" for word, value in (("hold", hold), ("cut", cut)) if value is not None]
     lines += [f"router {router} 10.0.0.{place}" for place, router in enumerate(known, 1)]
@@ -517,9 +517,9 @@ def build_network(links: Iterable[Link], origins: Mapping[GivenPrefix, int],
 
 def read_configurations(paths: Iterable[str], bird: Iterable[str] = (), best: int | None = None,
                         program: Program | None = None) -> Network:
-    """The network of routers' configurations, in the languages of FRR and BIRD, as tools/config reads them; the files of
-    `bird` are of BIRD, whatever they hold. With `best` a router that has more paths than a rule may have keeps so many.
-    Comments of the network call routers by their names."""
+    """The network of routers' configurations, in the languages of FRR and BIRD, as tools/config reads them; the files
+    of `bird` are of BIRD, whatever they hold. With `best` a router that has more paths than a rule may have keeps so
+    many. Comments of the network call routers by their names."""
     from bgpnet.configs import files, ranks  # loaded here alone: it takes some time
     untyped: Any = files, ranks
     of_files, of_ranks = untyped
@@ -530,8 +530,8 @@ def read_configurations(paths: Iterable[str], bird: Iterable[str] = (), best: in
 
 
 def decode(octets: bytes, width: int = 2, peer: int | None = None, program: Program | None = None) -> Decoded:
-    """The messages that octets spell, from an OPEN on or from any message, with all their fields, up to the first fault.
-    AS numbers have `width` octets, 2 or 4, which the octets do not say. A well-formed ROUTE-REFRESH (RFC 2918) is a message
-    too, although the program reads RFC 4271 alone. With `peer` an OPEN, and the first number of a
-    path, are checked against that AS number."""
+    """The messages that octets spell, from an OPEN on or from any message, with all their fields, up to the first
+    fault. AS numbers have `width` octets, 2 or 4, which the octets do not say. A well-formed ROUTE-REFRESH (RFC 2918)
+    is a message too, although the program reads RFC 4271 alone. With `peer` an OPEN, and the first number of a path,
+    are checked against that AS number."""
     return decoding.decode(program or default_program(), octets, width, peer)

@@ -6,7 +6,7 @@ import concurrent.futures
 import itertools
 import os
 import sys
-from typing import Callable, Deque, Iterator, Sequence, TypeVar
+from typing import Callable, Iterator, Sequence, TypeVar
 
 from bgpnet.program import Words, count
 
@@ -26,18 +26,12 @@ def in_order(make: Callable[[Thing], Made], things: Sequence[Thing], jobs: int,
     """What is made of each thing, in the order of the things, by so many threads at a time. Where the standard error is
     a terminal, it says how far it is."""
     pool, is_seen = concurrent.futures.ThreadPoolExecutor(jobs), sys.stderr.isatty()
-    waiting: Deque[concurrent.futures.Future[Made]] = collections.deque()
-    left, told = iter(things), 0
+    submitted = (pool.submit(make, thing) for thing in things)
+    waiting = collections.deque(itertools.islice(submitted, AHEAD * jobs))
     try:
-        while True:
-            while len(waiting) < AHEAD * jobs:
-                more = list(itertools.islice(left, 1))
-                if not more:
-                    break
-                waiting.append(pool.submit(make, *more))
-            if not waiting:
-                return
-            made, told = waiting.popleft().result(), told + 1
+        for told in range(1, len(things) + 1):
+            made = waiting.popleft().result()
+            waiting.extend(itertools.islice(submitted, 1))
             if is_seen:
                 print(f"\r{told} of {len(things)} {about} ", end="", file=sys.stderr, flush=True)
             yield made

@@ -29,7 +29,7 @@ TITLE, LINE, LETTER, BOLD, SMALL_LETTER = 40, 15, 7.4, 8.5, 5.6
 # How far from the middle of a router its texts stand, outside its rings, and how near to it no other's link comes.
 BESIDE, CLEAR = RADIUS + 13, RADIUS + 7
 # The places of a router's texts, as sides to the right and down, the ones that are tried first in front; how far from a
-# text no link and no arrow beside it may pass; and what it costs to cover a router, another text, and a point of a link.
+# text no link and no arrow beside it may pass; and what it costs to cover a router, another text, a point of a link.
 SIDES = ((1, 0), (-1, 0), (0, -1), (0, 1), (1, -1), (-1, -1), (1, 1), (-1, 1))
 OFF, OVER_ROUTER, OVER_TEXT, OVER_LINK = 7, 60, 25, 1
 # What a slide is as wide and high as, and how many letters of a legend a sample is as wide as.
@@ -269,7 +269,8 @@ class Layout:
 
     def __init__(self, network: Network, spots: Spots, drawns: Sequence[Drawn]) -> None:
         self.network, self.drawns = network, drawns
-        self.texts = {router: Texts([rule_texts(network, router, drawn) for drawn in drawns]) for router in network.routers}
+        self.texts = {router: Texts([rule_texts(network, router, drawn) for drawn in drawns])
+                      for router in network.routers}
         link = LINK if len(spots) <= MOST_WITH_RULES else LONG_LINK
         self.spots = {router: (x * link, y * link) for router, (x, y) in spots.items()}
         curves = [self.bent(ends) for ends in network.links]

@@ -1,5 +1,5 @@
-"""What is left of a network when links are down: in how many ends it can rest, and whether every order comes to rest; and
-schedules that lead to routes that are given."""
+"""What is left of a network when links are down: in how many ends it can rest, and whether every order comes to rest;
+and schedules that lead to routes that are given."""
 from __future__ import annotations
 
 from typing import Collection, Mapping
@@ -24,7 +24,7 @@ def part_of(network: Network, prefix: Prefix, without: Collection[Ends]) -> str:
 
 
 def counted(program: Program, text: str) -> int | None:
-    """How many stable assignments a network of one prefix has, None where a limit was met, or the program refuses it."""
+    """How many stable assignments a network of one prefix has, None where a limit was met, or it is refused."""
     status, lines = program.ask(["stable"], text)
     return None if status == 1 else read_stable(lines)[0].count
 
@@ -46,8 +46,8 @@ def ends_left(program: Program, network: Network, without: Collection[Ends] = fr
 
 def is_safe(program: Program, network: Network, prefix: Prefix,
             without: Collection[Ends] = frozenset()) -> bool | None:
-    """Whether the word `safe` of the program says that every order of what is left comes to rest; None where it does not
-    say so."""
+    """Whether the word `safe` of the program says that every order of what is left comes to rest; None where it does
+    not say so."""
     try:
         status, lines = program.ask(["safe"], part_of(network, prefix, without))
     except Refusal:

@@ -1,7 +1,7 @@
 """The paths of a prefix that can come to routers, and what stands in rules that never can."""
 from __future__ import annotations
 
-from typing import Dict, Iterator, Mapping, Optional
+from typing import Dict, Iterable, Iterator, Mapping, Optional
 
 from bgpnet.network import LONGEST_PATH, Ends, Link, Network, Path, Prefix
 
@@ -30,6 +30,22 @@ class Preference:
     def key(self, path: Path) -> tuple[int, Path]:
         """By this a better path comes before another one."""
         return (len(path), path) if self.places is None else (self.places[path], ())
+
+
+class Chooser:
+    """What the routers of a network choose for a prefix of what their peers have."""
+
+    def __init__(self, network: Network, prefix: Prefix) -> None:
+        self.origin = network.origins[prefix]
+        self.preferences = {router: Preference(network, router, prefix) for router in network.routers}
+
+    def best(self, router: int, heard: Iterable[Path]) -> Path:
+        """The best of the paths on which a router hears of the prefix, or none."""
+        if router == self.origin:
+            return (router,)
+        own = self.preferences[router]
+        found = [(router, *path) for path in heard if path and router not in path and len(path) < LONGEST_PATH]
+        return min(filter(own.permits, found), key=own.key, default=())
 
 
 def live_paths(network: Network, prefix: Prefix) -> dict[int, list[Path]]:

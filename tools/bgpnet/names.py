@@ -59,7 +59,8 @@ def value_text(code: int, value: bytes) -> str:
     if code == 64:
         time = struct.unpack_from(">H", value)[0]
         families = [family_text(*struct.unpack_from(">HB", value, at)) for at in range(2, len(value) - 3, 4)]
-        return f" {time & 4095} s" + (f" ({', '.join(families)})" if families else "") + " restarted" * bool(time & 0x8000)
+        listed = f" ({', '.join(families)})" if families else ""
+        return f" {time & 4095} s{listed}" + " restarted" * bool(time & 0x8000)
     if code == 69:
         return " " + ", ".join(f"{family_text(*struct.unpack_from('>HB', value, at))} {WAYS.get(value[at + 3], '?')}"
                                for at in range(0, len(value) - 3, 4))

@@ -1,12 +1,13 @@
 """Networks as the program reads them, of texts that it has taken: it alone refuses (`read_network` asks it)."""
 from __future__ import annotations
 
+import argparse
 import ipaddress
 import random
 import re
 from typing import Collection, Dict, FrozenSet, Iterable, Iterator, Mapping, NamedTuple, Sequence, Tuple
 
-from bgpnet.program import Program, Refusal
+from bgpnet.program import Program, Refusal, read_text
 
 # The limits of networks (docs/TEXTS.md).
 MOST_ROUTERS = 64
@@ -123,47 +124,20 @@ def parts_of(text: str) -> tuple[list[str], str | None, list[str]]:
 NUMBER_FORM = "([0-9]{1,10})"
 RELATION = re.compile(rf"# {NUMBER_FORM} (customer|peer) of {NUMBER_FORM}\s*")
 TURNED = {"customer": "provider", "peer": "peer"}
-
-
-def relations_of(lines: Iterable[str]) -> Iterator[tuple[Link, str]]:
-    """What routers are to each other, as comments among the lines say it."""
-    for line in lines:
-        found = RELATION.fullmatch(line)
-        if found:
-            one, relation, other = found.groups()
-            yield (int(other), int(one)), relation
-            yield (int(one), int(other)), TURNED[relation]
-
-
 # How a comment says where a router stands in a picture, in steps to the right and down, and what it is called.
 STEPS_FORM = r"(-?[0-9]{1,9}(?:\.[0-9]{1,9})?)"
 PLACE = re.compile(rf"# {NUMBER_FORM} at {STEPS_FORM} {STEPS_FORM}\s*")
 NAME_FORM = r"[A-Za-z0-9_][A-Za-z0-9_.-]*"
 NAME = re.compile(rf"# {NUMBER_FORM} called ({NAME_FORM})\s*")
-
-
 # How a comment says that a router keeps the routes of a peer that restarts, as FRR does by `bgp graceful-restart`.
 KEEPS = re.compile(rf"# {NUMBER_FORM} keeps routes of peers that restart\s*")
-
-
 # The comments that a text keeps which is written of a network.
 REMARKS = RELATION, PLACE, NAME, KEEPS
 
 
-def places_of(lines: Iterable[str]) -> Iterator[tuple[int, tuple[float, float]]]:
-    """Where comments among the lines put routers in a picture."""
-    for line in lines:
-        found = PLACE.fullmatch(line)
-        if found:
-            yield int(found[1]), (float(found[2]), float(found[3]))
-
-
-def names_of(lines: Iterable[str]) -> Iterator[tuple[int, str]]:
-    """What comments among the lines call routers."""
-    for line in lines:
-        found = NAME.fullmatch(line)
-        if found:
-            yield int(found[1]), found[2]
+def comments_of(form: re.Pattern[str], lines: Iterable[str]) -> Iterator[re.Match[str]]:
+    """The comments of a form among the lines."""
+    return filter(None, map(form.fullmatch, lines))
 
 
 def is_name(word: str | None) -> bool:
@@ -224,9 +198,13 @@ class Network(Named):
         self.links: list[Link] = []
         self.peers: dict[int, list[int]] = {}
         self.rules: dict[int, list[Rule]] = {}
-        self.relations, self.names = dict(relations_of(lines)), dict(names_of(lines))
+        self.relations: dict[Link, str] = {}
+        for found in comments_of(RELATION, lines):
+            one, relation, other = int(found[1]), found[2], int(found[3])
+            self.relations[other, one], self.relations[one, other] = relation, TURNED[relation]
+        self.names = {int(found[1]): found[2] for found in comments_of(NAME, lines)}
         self.called = telling(self.names)
-        self.keeping = [int(found[1]) for found in map(KEEPS.fullmatch, lines) if found]
+        self.keeping = [int(found[1]) for found in comments_of(KEEPS, lines)]
         self.cut, self.hold, self.width = 4096, 90, 2
         origins: dict[Prefix, int] = {}
         for number, line in enumerate(lines, 1):
@@ -255,7 +233,8 @@ class Network(Named):
                 self.rules[first].append(Rule(Prefix.read(words[2]), [read_path(word) for word in words[3:]], number))
         self.routers.sort()
         self.remarks = lines_text(line for line in lines if any(form.fullmatch(line) for form in REMARKS))
-        self.places = {router: place for router, place in places_of(lines) if router in self.peers}
+        self.places = {int(found[1]): (float(found[2]), float(found[3])) for found in comments_of(PLACE, lines)
+                       if int(found[1]) in self.peers}
         for peers in self.peers.values():
             peers.sort()
         self.origins = {prefix: origins[prefix] for prefix in sorted(origins)}
@@ -294,6 +273,12 @@ def read_network(program: Program, text: str, name: str) -> tuple[Network, str |
     above = "\n".join(lines[:-1] + [""] if section else lines)
     program.answer(["check"], above, name)
     return Network(lines), section, rest
+
+
+def network_asked(asked: argparse.Namespace, name: str) -> tuple[Program, str, Network, str | None, list[str]]:
+    """The program that a command line names, and the text of this name: with its network, and its section and lines."""
+    program, text = Program(asked.program), read_text(name)
+    return (program, text, *read_network(program, text, name))
 
 
 def routes_of(lines: Iterable[str]) -> RouteDict:
@@ -341,7 +326,7 @@ def originations(network: Network) -> list[str]:
 
 def usual_orders(network: Network, rounds: int, later: int, draw: random.Random | None = None) -> list[str]:
     """The orders by which each session comes up and each prefix is originated, then rounds, a snapshot by the least
-    router, and later rounds in which it comes out. With `draw` the sessions, and then the prefixes, come in its order."""
+    router, and later rounds in which it comes out. With `draw` sessions, and then prefixes, come in its order."""
     begin, announce = starts(network), originations(network)
     for orders in (begin, announce) if draw else ():
         orders.sort(key=lambda _: draw.random() if draw else 0)

@@ -12,8 +12,8 @@ from bgpnet.network import (Ends, Network, Path, Prefix, RouteDict, lines_text, 
 from bgpnet.program import Program, Refusal, Refused
 from bgpnet.tracing import Moment, events_of, orders_of
 
-# The path of each router for one prefix; a router that would move, with its path and its best one; and a line of `check`
-# behind words, with whether it is stable.
+# The path of each router for one prefix; a router that would move, with its path and its best one; and a line of
+# `check` behind words, with whether it is stable.
 Chosen = Mapping[int, Path]
 Move = Tuple[int, Path, Path]
 Said = Tuple[str, bool]
@@ -80,7 +80,8 @@ def judgement(program: Program, network: Network, prefix: Prefix, chosen: Chosen
         return gone
     routes = {(router, prefix): chosen.get(router, ()) for router in network.routers}
     try:
-        said = read_check([judgements(program, network, routes, without, "check", [prefix])[prefix][0].split(": ", 1)[1]])
+        line = judgements(program, network, routes, without, "check", [prefix])[prefix][0]
+        said = read_check([line.split(": ", 1)[1]])
     except Refused:
         return None
     links = ", ".join(network.link_text(link) for link in network.links if frozenset(link) in without)
@@ -192,7 +193,8 @@ def verdict_text(network: Network, line: str) -> str:
     """How a snapshot came out, in words, by the line of `play`."""
     found = snapshot_of(line, ())
     one, other = (network.name_of(router) if router else "" for router in (found.router, found.peer))
-    why = {"pending": f"{one} has still to choose or to tell", "inflight": f"an UPDATE from {other} to {one} is in flight",
+    why = {"pending": f"{one} has still to choose or to tell",
+           "inflight": f"an UPDATE from {other} to {one} is in flight",
            "mismatch": f"{one} and {other} recorded two connections", "closed": f"session {one}-{other} closed",
            "notup": f"session {one}-{other} is down", "superseded": f"{one} began a later one"}.get(found.why or "", "")
     if found.verdict == "abandoned":

@@ -81,8 +81,8 @@ class Words(argparse.ArgumentParser):
     def __init__(self, text: str | None, asks: bool = True) -> None:
         super().__init__(description=text, allow_abbrev=False, formatter_class=argparse.RawDescriptionHelpFormatter)
         if asks:
-            self.add_argument("--program", metavar="PATH", default=found_program(),
-                              help="the program (what BGPNET names, else bgpnet on PATH, else crates/bgpnet/out/bgpnet)")
+            self.add_argument("--program", metavar="PATH", default=found_program(), help="the program (what BGPNET "
+                              "names, else bgpnet on PATH, else crates/bgpnet/out/bgpnet)")
 
     def format_help(self) -> str:
         text = super().format_help()
@@ -103,7 +103,7 @@ def count(least: int, most: int) -> Callable[[str], int]:
 
 
 def read_octets(name: str) -> bytes:
-    """The octets of a file, those of the standard input where its name is `-`. What gzip or bzip2 packed is unpacked."""
+    """The octets of a file, of the standard input where its name is `-`; what gzip or bzip2 packed is unpacked."""
     if name == "-":
         return unpacked(name, sys.stdin.buffer.read())
     with open(name, "rb") as file:
@@ -132,8 +132,8 @@ def write_text(text: str) -> None:
 
 
 def refused(name: str, said: str) -> Refused:
-    """The refusal of a text, by what the program said of it on the standard error: the first that names a line, which is
-    why, and behind it what may have been meant."""
+    """The refusal of a text, by what the program said of it on the standard error: the first that names a line, which
+    is why, and behind it what may have been meant."""
     found = SAID.findall(said) or [("", said.strip() or "the program refuses it")]
     (line, why), *hints = found[next((at for at, (line, _) in enumerate(found) if line), 0):]
     return Refused(name, int(line or 0), why, [hint for _, hint in hints])
@@ -150,8 +150,8 @@ class Program:
         self.path = os.path.abspath(path)
 
     def run(self, words: Sequence[str], text: str) -> tuple[int, list[str], str]:
-        """The status, 0 or 1, or 5 of `stable` and `safe`, and what the program prints for a text on the standard output
-        and error."""
+        """The status, 0 or 1, or 5 of `stable` and `safe`, and what the program prints for a text on the standard
+        output and error."""
         done = subprocess.run([self.path, *words], input=text.encode("latin-1"), capture_output=True)
         lines = done.stdout.decode("latin-1").splitlines()
         if done.returncode not in (0, 1, 5):
@@ -171,7 +171,7 @@ class Program:
         return lines
 
     def trace(self, text: str, name: str) -> list[str]:
-        """The lines that `bgpnet trace` prints for a text that it takes; a refusal names the line of the file `name`."""
+        """The lines that `bgpnet trace` prints for a text; a refusal names the line of the file `name`."""
         return self.answer(["trace"], text, name)
 
 

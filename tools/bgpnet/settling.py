@@ -1,5 +1,5 @@
-"""Whether a network comes to rest: the stable assignments of each prefix, a dispute wheel, how orders of events end, and
-which timing decides."""
+"""Whether a network comes to rest: the stable assignments of each prefix, a dispute wheel, how orders of events end,
+and which timing decides."""
 from __future__ import annotations
 
 from dataclasses import asdict, dataclass
@@ -70,8 +70,8 @@ class Found:
 
 
 def found_of(program: Program, network: Network, prefix: Prefix, most: int) -> Found:
-    """What is found of a prefix. The program is asked for a dispute wheel and for the stable assignments; a wheel that it
-    finds is looked for here too, since a smaller one may be there."""
+    """What is found of a prefix. The program is asked for a dispute wheel and for the stable assignments; a wheel that
+    it finds is looked for here too, since a smaller one may be there."""
     origin = network.origins[prefix]
     free = {router for router in network.routers if network.rule(router, prefix) is None}
     if free.issuperset(set(network.routers) - {origin}):
@@ -91,8 +91,8 @@ def found_of(program: Program, network: Network, prefix: Prefix, most: int) -> F
 
 
 def found_shortest(network: Network, prefix: Prefix, most: int) -> Found:
-    """No wheel can be where each router likes the shorter path better: round it, each path would be longer than the next.
-    So there is one stable assignment."""
+    """No wheel can be where each router likes the shorter path better: round it, each path would be longer than the
+    next. So there is one stable assignment."""
     shortest = shortest_paths(network, prefix)
     paths = {router: [shortest[router]] if router in shortest else [] for router in network.routers}
     chosen = {router: shortest.get(router, ()) for router in network.routers}
@@ -223,8 +223,8 @@ def row_text(network: Network, paths: Iterable[tuple[int, Path]]) -> str:
 
 
 class Timing:
-    """The two shortest orders of hearings that come to different ends of a prefix, each confirmed by `play`; or nothing,
-    where there are none, or not found."""
+    """The two shortest orders of hearings that come to different ends of a prefix, each confirmed by `play`; or
+    nothing, where there are none, or not found."""
 
     def __init__(self, program: Program, network: Network, prefix: Prefix) -> None:
         self.network, self.prefix = network, prefix
@@ -255,7 +255,8 @@ class Timing:
                 for words, (end, order, text) in zip(self.words, self.ends)]
 
 
-def is_confirmed(found: Sequence[Found], judged: Sequence[Sequence[tuple[dict[int, Path], Said]]], ends: OrderEnds) -> bool:
+def is_confirmed(found: Sequence[Found], judged: Sequence[Sequence[tuple[dict[int, Path], Said]]],
+                 ends: OrderEnds) -> bool:
     """Whether the program says the same: each assignment is stable, orders settle in those that were found, and where
     there is no wheel none goes on for ever."""
     listed = {one.prefix: one.assignments for one in found if one.are_all}

@@ -47,7 +47,8 @@ def stable_assignments(program: Program, paths: Mapping[int, Sequence[Path]], or
     return found, len(found) <= most
 
 
-def is_safe(program: Program, paths: Mapping[int, Sequence[Path]], origin: int, free: Collection[int] = ()) -> bool | None:
+def is_safe(program: Program, paths: Mapping[int, Sequence[Path]], origin: int,
+            free: Collection[int] = ()) -> bool | None:
     """Whether the paths that can come have no dispute wheel, as `bgpnet safe` says; None where it says nothing, since a
     router of `free` has more paths than a rule."""
     status, lines = program.ask(["safe"], network_text(paths, origin, free))

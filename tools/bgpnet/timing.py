@@ -1,13 +1,13 @@
-"""Which timing decides: the shortest orders in which the routers of a prefix hear what they are told, by the end that each
-comes to."""
+"""Which timing decides: the shortest orders in which the routers of a prefix hear what they are told, by the end that
+each comes to."""
 from __future__ import annotations
 
 from collections import deque
 from dataclasses import dataclass
-from typing import Iterable, List, Optional, Sequence, Tuple
+from typing import List, Optional, Sequence, Tuple
 
-from bgpnet.live import Preference
-from bgpnet.network import LONGEST_PATH, Link, Network, Path, Prefix, starts
+from bgpnet.live import Chooser
+from bgpnet.network import Link, Network, Path, Prefix, starts
 from bgpnet.tracing import rest_bound
 
 # Of each way of a link, what its end heard last, and what is on its way; and the path of each router.
@@ -19,26 +19,10 @@ Before = Tuple[Optional[State], Optional[Link], List[Link]]
 MOST_STATES = 15_000
 
 
-class Chooser:
-    """What a router chooses of what its peers said."""
-
-    def __init__(self, network: Network, prefix: Prefix) -> None:
-        self.origin = network.origins[prefix]
-        self.preferences = {router: Preference(network, router, prefix) for router in network.routers}
-
-    def best(self, router: int, heard: Iterable[Path]) -> Path:
-        """The best of the paths on which a router hears of the prefix, or none."""
-        if router == self.origin:
-            return (router,)
-        own = self.preferences[router]
-        found = [(router, *path) for path in heard if path and router not in path and len(path) < LONGEST_PATH]
-        return min(filter(own.permits, found), key=own.key, default=())
-
-
 class Hearings:
-    """The states of a prefix as its UPDATEs are heard one by one. A state is, for each way of a link, what its end heard
-    last and what is on its way; each router chooses and tells at once. A path with its hearer in it counts as none; an
-    UPDATE that says again what was heard last is heard at once, since it changes nothing."""
+    """The states of a prefix as its UPDATEs are heard one by one. A state is, for each way of a link, what its end
+    heard last and what is on its way; each router chooses and tells at once. A path with its hearer in it counts as
+    none; an UPDATE that says again what was heard last is heard at once, since it changes nothing."""
 
     def __init__(self, network: Network, prefix: Prefix) -> None:
         self.chooser, self.network = Chooser(network, prefix), network
@@ -141,7 +125,7 @@ def parting(orders: Sequence[HearingOrder]) -> tuple[Link | None, Link | None]:
 def sentence(network: Network, one: Link, other: Link) -> str:
     """Two hearings, the first before the second, in words."""
     sender, router, later, last = map(network.name_of, one + other)
-    return f"{router} hears {sender} before {later}" if router == last else f"{router} hears {sender} before {last} hears {later}"
+    return f"{router} hears {sender} before " + (later if router == last else f"{last} hears {later}")
 
 
 def schedule_of(network: Network, prefix: Prefix, order: HearingOrder) -> list[str]:

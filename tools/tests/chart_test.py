@@ -252,6 +252,10 @@ class Chart(unittest.TestCase):
         self.assertEqual(run("chart", *words, "--points", points)[0], 0)
         self.assertEqual(run("chart", *words, "--points", int(points) + 1)[0], 1)
         self.assertEqual(run("chart", *words, "--to", last)[0], 0)
+        routers = [f"router {at} 10.0.0.{at}" for at in range(1, 31)] + [f"link {at} {at + 1}" for at in range(1, 30)]
+        status, _, error = run("chart", "-", "--slide", given="\n".join([*routers, ""]).encode())
+        self.assertEqual((status, error), (1, "chart: 0 rows of 30 routers have no room on a slide; --from, --from-line, "
+                                              "--updates and --prefix show a part\n"))
         network = b"router 1 10.0.0.1\nrouter 2 10.0.0.2\nlink 1 2\n"
         long = network + b"schedule\n" + b"start 1 2\n" * (charts.MOST_ROWS + 1)
         last = re.search(r"--to (\d+) has room", run("chart", "-", given=long)[2])[1]

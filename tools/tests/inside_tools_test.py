@@ -9,7 +9,7 @@ import unittest
 from support import TOP, asked_program, run
 from inside_cases import EDGES, ONE, PROVIDERS, SQUARE, Net
 
-from bgpnet.becoming import Becoming
+from bgpnet.becoming import ends_of
 from bgpnet.commands.beside import fail_igp, lab_of
 from bgpnet.configs.as_failures import IgpFailures, links_of
 from bgpnet.configs.as_random import make
@@ -284,11 +284,11 @@ class Becomes(Folder):
 
         prefix, direct = Prefix.read(ONE), {(router, Prefix.read(ONE)): (router, 1) for router in (2, 3, 4)}
         direct[1, prefix] = (1,)
-        disagree = Becoming(network("2-3-1 2-1", "3-2-1 3-1", "4-1"))
-        ends, restless = disagree.ends(prefix, direct, 20)
+        disagree = network("2-3-1 2-1", "3-2-1 3-1", "4-1")
+        ends, restless = ends_of(disagree, prefix, direct, 20)
         self.assertEqual((len(ends), restless, sum(ends.values())), (2, 0, 21))
-        ring = Becoming(network("2-3-1 2-1", "3-4-1 3-1", "4-2-1 4-1"))
-        self.assertEqual(ring.ends(prefix, direct, 3), ({}, 4))
+        ring = network("2-3-1 2-1", "3-4-1 3-1", "4-2-1 4-1")
+        self.assertEqual(ends_of(ring, prefix, direct, 3), ({}, 4))
 
     def test_networks_that_are_no_pair(self):
         before, _ = self.networks()

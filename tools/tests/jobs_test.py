@@ -45,7 +45,7 @@ class InOrder(unittest.TestCase):
     def test_random_sets_are_told_by_their_seeds(self):
         """`beside` runs some at once, here without routers, and the last ones end first."""
         class Process:
-            def __init__(self, words):
+            def __init__(self, *words):
                 self.seed, self.returncode = int(words[words.index("--seed") + 1]), 0
 
             def communicate(self):
@@ -55,7 +55,7 @@ class InOrder(unittest.TestCase):
         beside, out = load("beside"), io.StringIO()
         beside.one = Process
         with contextlib.redirect_stdout(out):
-            status = beside.random_sets(argparse.Namespace(seed=3, random=6, jobs=6, keep=None), [])
+            status = beside.random_sets(argparse.Namespace(seed=3, random=6, jobs=6, keep=None))
         self.assertEqual((status, out.getvalue().splitlines()), (0, [
             *(f"seed {seed}: agrees 2 routers {seed} routes" for seed in range(3, 9)),
             "6 sets from seed 3: 6 agrees; 33 routes compared"]))

@@ -150,11 +150,11 @@ def inside(asked, program):
     return 1 if verdict == "wrong" else 0
 
 
-def one(words):
-    """This tool once more, for a set in a namespace of its own."""
-    environment = dict(os.environ, **{INSIDE: "1"})
-    return subprocess.Popen(["unshare", "--net", "--mount", sys.executable, os.path.abspath(sys.argv[0]), *words], env=environment,
-                            stdout=subprocess.PIPE, stderr=subprocess.STDOUT, text=True)
+def one(*words):
+    """This tool once more, by its words and some that stand in place of these, for a set in a namespace of its own."""
+    command = ["unshare", "--net", "--mount", sys.executable, os.path.abspath(sys.argv[0]), *sys.argv[1:], *words]
+    return subprocess.Popen(command, env=dict(os.environ, **{INSIDE: "1"}), stdout=subprocess.PIPE,
+                            stderr=subprocess.STDOUT, text=True)
 
 
 def verdict_of(said, status):
@@ -165,11 +165,11 @@ def verdict_of(said, status):
     return "refused" if verdict == f"{os.path.basename(sys.argv[0])}:" else "failed"
 
 
-def random_sets(asked, words):
+def random_sets(asked):
     """Runs random sets, some at once, tells of them in the order of their seeds, and counts their verdicts."""
     def run(seed):
         keep = ["--keep", os.path.join(asked.keep, str(seed))] if asked.keep else []
-        process = one([*words, "--seed", str(seed), *keep])
+        process = one("--seed", str(seed), *keep)
         return process.communicate()[0].splitlines() or ["nothing"], process.returncode
 
     counts, routes, seeds = {}, 0, range(asked.seed, asked.seed + asked.random)
@@ -245,15 +245,11 @@ def compare(text, kinds):
     program = Program(asked.program)
     if os.environ.get(INSIDE):
         return inside(asked, program)
-    given = ["--program", program.path, "--frr", asked.frr]
-    given += ["--bird", asked.bird, "--of", asked.of] if len(kinds) > 1 else []
     if asked.random and asked.keep:
         os.makedirs(asked.keep, exist_ok=True)
     if asked.random:
-        return random_sets(asked, given)
-    keep = ["--keep", asked.keep] if asked.keep else []
-    keep += ["--fail-each-link"] * asked.fail_each_link + ["--fail-each-igp-link"] * asked.fail_each_igp_link
-    process = one([*given, "--seed", str(asked.seed), *keep, *([asked.folder] if asked.folder else [])])
+        return random_sets(asked)
+    process = one()
     sys.stdout.write(process.communicate()[0])
     return process.returncode
 

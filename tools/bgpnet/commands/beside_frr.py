@@ -1,5 +1,5 @@
-"""Compares what tools/config says of configurations with what real `bgpd` processes of FRR 8.4 do by them: tools/beside,
-of sets of FRR alone.
+"""Compares what tools/config says of configurations with what real `bgpd` processes of FRR 8.4 do by them:
+tools/beside, of sets of FRR alone.
 
     tools/beside_frr examples/config/wedgie
     tools/beside_frr --random 20 --seed 1          twenty random sets, the first of seed 1

@@ -13,15 +13,15 @@ Thick are UPDATEs, blue those that announce, orange and broken those that withdr
 KEEPALIVEs (grey), shuts and NOTIFICATIONs (brown), and, violet and dotted, the markers of snapshots. A diamond is a
 command; a box is the path that a router keeps from there on; seconds that pass are a line across. A violet square is
 where a router records a snapshot, and the violet line through those of all routers is the cut: an UPDATE that leaves
-above it and ends below is in flight. The numbers in front are those of events. Below stand how snapshots came out, and a
-legend, but on a slide.
+above it and ends below is in flight. The numbers in front are those of events. Below stand how snapshots came out, and
+a legend, but on a slide.
 
 With --columns the chart goes on in a column beside the first; a column ends where no arrow is under way, if there is
 such a place near. With --slide it has as many columns as make its letters 12 points high (--points) on a slide of 13.3
 by 7.5 inches, and what has no room there is refused, with words that make room."""
 from bgpnet.charts import LEAST_POINTS, MOST_COLUMNS, MOST_EVENTS, POINTS, Shown, drawn_chart
-from bgpnet.network import Prefix, read_network
-from bgpnet.program import Program, Words, count, read_text, tool, write_text
+from bgpnet.network import Prefix, network_asked
+from bgpnet.program import Words, count, tool, write_text
 
 
 @tool
@@ -43,9 +43,7 @@ def main():
                        help=f"how high letters are on a slide, {LEAST_POINTS} to {POINTS} ({POINTS})")
     asked = words.parse_args()
     prefix = Prefix.named(asked.prefix) if asked.prefix else None
-    program = Program(asked.program)
-    text = read_text(asked.schedule)
-    network, _, _ = read_network(program, text, asked.schedule)
+    program, text, network, *_ = network_asked(asked, asked.schedule)
     shown = Shown(asked.first, asked.last, asked.first_line, asked.last_line, asked.updates, prefix, asked.columns,
                   asked.slide, asked.points)
     write_text(drawn_chart(program, network, text, asked.schedule, shown))

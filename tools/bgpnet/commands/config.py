@@ -15,9 +15,9 @@ Warnings go to the standard error.
 Where every AS has one router, the routers have its numbers. Of paths that are alike up to the router id FRR keeps the
 one that it selected first. Such ties are told, and stand by router id; --ties plays their other orders.
 
-An AS may have several routers of FRR, which tell each other by iBGP. The routers then are numbered in the order of their
-hostnames. How far a next hop is the configurations say, or --igp FILE; --igp-down U-V leaves a link of the IGP out, and
-tools/whatif --becomes says what that changes. Ties are refused, unless --ties asks for their orders.
+An AS may have several routers of FRR, which tell each other by iBGP. The routers then are numbered in the order of
+their hostnames. How far a next hop is the configurations say, or --igp FILE; --igp-down U-V leaves a link of the IGP
+out, and tools/whatif --becomes says what that changes. Ties are refused, unless --ties asks for their orders.
 
 Nothing of this is proved: tools/beside compares it with real routers."""
 import sys
@@ -105,8 +105,8 @@ def asked_words():
     words.add_argument("--external", nargs=2, metavar=("AS", "FILE"), action="append", default=[],
                        help="a neighbor without a configuration, which announces what FILE shows of it: MRT, JSON of "
                        "FRR, or lines PREFIX AS AS ..")
-    words.add_argument("--igp", metavar="FILE", help="the edges of the IGP where an AS has several routers, a line ROUTER "
-                       "ROUTER COST for each")
+    words.add_argument("--igp", metavar="FILE", help="the edges of the IGP where an AS has several routers, a line "
+                       "ROUTER ROUTER COST for each")
     words.add_argument("--igp-down", metavar="U-V", action="append", default=[],
                        help="without this link of the IGP, as it is when it fails")
     words.add_argument("--ties", action="store_true", help="play the orders of ties, and list the ends")

@@ -10,15 +10,15 @@ take, which `best` marks. Behind a line `schedule` the routes are those at the e
 whose session is not up at both ends is crossed out, one over which nothing came for some seconds is dotted, and `check`
 judges the network without those that are down. With --routes they are the last `route` lines of a report.
 
-The origin has a ring, and stands below. Beside each router stands the rule that it has, its route in bold; in a
-network of more than twelve routers a browser shows the rule of the one under the pointer. Comments `# 30 customer of
-18` and `# 20 peer of 30`, as tools/topology writes them, are drawn on their links, and then customers stand below
-their providers. A comment `# 30 at 2 1` puts router 30 two steps to the right and one down, and `# 30 called west` writes
+The origin has a ring, and stands below. Beside each router stands the rule that it has, its route in bold; in a network
+of more than twelve routers a browser shows the rule of the one under the pointer. Comments `# 30 customer of 18` and
+`# 20 peer of 30`, as tools/topology writes them, are drawn on their links, and then customers stand below their
+providers. A comment `# 30 at 2 1` puts router 30 two steps to the right and one down, and `# 30 called west` writes
 that name into its circle. A legend says what is what."""
 from bgpnet.films import drawn_routes, svg_of
-from bgpnet.network import read_network, routes_of, words_of
+from bgpnet.network import network_asked, routes_of, words_of
 from bgpnet.playing import chosen_prefix, state_behind
-from bgpnet.program import Program, Refusal, Words, read_text, tool, write_text
+from bgpnet.program import Refusal, Words, read_text, tool, write_text
 
 
 def reported(network, name):
@@ -50,9 +50,7 @@ def main():
     asked = words.parse_args()
     if asked.routes == asked.network == "-":
         words.error("the network and the routes can't both come by the standard input")
-    program = Program(asked.program)
-    text = read_text(asked.network)
-    network, section, rest = read_network(program, text, asked.network)
+    program, text, network, section, rest = network_asked(asked, asked.network)
     if section:
         program.answer(["check" if section == "assignment" else "play"], text, asked.network)
     prefix, state = chosen_prefix(network, asked.prefix), None

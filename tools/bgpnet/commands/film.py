@@ -8,10 +8,11 @@ originate, withdraw, restart); it has the orders up to the next step, or with --
 trace` says of the run behind each step is drawn: routes; crossed out, links whose session is not up at both ends;
 dotted, links whose session is up and over which nothing came for some seconds; a ring around each router whose route is
 another than in the picture before. Below stands how snapshots came out, or what `bgpnet check` says of the routes in
-the network without the links that are down, and how many UPDATEs are on their way. --from and --to draw some of the steps, by their numbers."""
+the network without the links that are down, and how many UPDATEs are on their way. --from and --to draw some of the
+steps, by their numbers."""
 from bgpnet.films import MOST_PICTURES, MOST_STEPS, Shown, film_of
-from bgpnet.network import read_network
-from bgpnet.program import Program, Words, count, read_text, tool, write_text
+from bgpnet.network import network_asked
+from bgpnet.program import Words, count, tool, write_text
 
 
 @tool
@@ -27,9 +28,7 @@ def main():
     words.add_argument("--no-rules", dest="rules", action="store_false", help="draw no rules and no routes in words")
     words.add_argument("--slide", action="store_true", help="as wide and high as a slide, 16 to 9")
     asked = words.parse_args()
-    program = Program(asked.program)
-    text = read_text(asked.schedule)
-    network = read_network(program, text, asked.schedule)[0]
+    program, text, network, *_ = network_asked(asked, asked.schedule)
     shown = Shown(asked.prefix, asked.each, asked.first, asked.last, asked.rules, asked.columns, asked.slide)
     write_text(film_of(program, network, text, asked.schedule, shown))
     return 0

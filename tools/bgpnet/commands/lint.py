@@ -90,8 +90,8 @@ def silences(network, trace, text):
     for event in [*events_of(trace, orders_of(text)), None]:
         if event is None or event.line != line:
             if were_up and not moment.up:
-                yield line, (f"the hold time of every session runs out, since nothing is heard for so long: put `rounds` "
-                             f"between `ticks` of at most {max(1, network.hold // 3)}")
+                yield line, ("the hold time of every session runs out, since nothing is heard for so long: put "
+                             f"`rounds` between `ticks` of at most {max(1, network.hold // 3)}")
             line = event and event.line
             were_up = set(moment.up) if event and event.words[0] == "tick" else set()
         if event:

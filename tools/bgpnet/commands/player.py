@@ -17,8 +17,8 @@ import os
 import pathlib
 
 from bgpnet import layout
-from bgpnet.network import parts_of, read_network, routes_of
-from bgpnet.program import Program, Refusal, Words, count, read_text, tool, write_text
+from bgpnet.network import network_asked, parts_of, routes_of
+from bgpnet.program import Refusal, Words, count, tool, write_text
 from bgpnet.tracing import COMMANDS, events_of, orders_of
 
 PAGE = pathlib.Path(__file__).resolve().parents[1] / "page"
@@ -69,7 +69,8 @@ def places_of(network, prefix, routes):
     links = [{"ends": list(map(str, ends)),
               "curve": [round(SCALE * number, 1) for point in placed.curve(*ends) for number in point]}
              for ends in network.links]
-    return {"routers": routers, "links": links, "width": round(SCALE * placed.width), "height": round(SCALE * placed.height)}
+    return {"routers": routers, "links": links,
+            "width": round(SCALE * placed.width), "height": round(SCALE * placed.height)}
 
 
 def run_of(network, events, said):
@@ -108,23 +109,21 @@ def main():
     words.add_argument("schedule", metavar="SCHEDULE", help="an input of `bgpnet play`, - for the standard input")
     words.add_argument("--to", type=count(1, MOST_EVENTS), metavar="N", help="play up to the event of this number")
     asked = words.parse_args()
-    program = Program(asked.program)
-    text = read_text(asked.schedule)
-    network, section, rest = read_network(program, text, asked.schedule)
+    program, text, network, section, rest = network_asked(asked, asked.schedule)
     if section != "schedule":
         raise Refusal(f"{asked.schedule}: no schedule")
     said = program.answer(["play"], text, asked.schedule)
     events = events_of(program.trace(text, asked.schedule), orders_of(text))
     if not asked.to and len(events) > MOST_EVENTS:
-        raise Refusal(f"{asked.schedule}: {len(events)} events, and at most {MOST_EVENTS} are played: --to {MOST_EVENTS}, or "
-                      "fewer rounds")
+        raise Refusal(f"{asked.schedule}: {len(events)} events, and at most {MOST_EVENTS} are played: "
+                      f"--to {MOST_EVENTS}, or fewer rounds")
     events = events[:asked.to]
     first = len(parts_of(text)[0]) + 1
     lines = [(number, line) for number, line in enumerate(rest, first) if line.strip()]
     name = "a run" if asked.schedule == "-" else os.path.basename(asked.schedule)
     page = page_of(name, lines, run_of(network, events, said))
     if len(page.encode()) > MOST_OCTETS:
-        raise Refusal(f"{asked.schedule}: the page has {len(page.encode())} octets, and at most {MOST_OCTETS}: --to with fewer events "
-                      "makes it smaller")
+        raise Refusal(f"{asked.schedule}: the page has {len(page.encode())} octets, and at most {MOST_OCTETS}: --to "
+                      "with fewer events makes it smaller")
     write_text(page)
     return 0

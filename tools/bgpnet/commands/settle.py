@@ -7,11 +7,11 @@
 NETWORK is an input of `bgpnet check` or `play`; what stands behind `assignment` or `schedule` is left out. For each
 prefix it prints: the paths of rules that can never come; every stable assignment of paths, as `bgpnet stable` lists
 them, with what `bgpnet check` says of it; a small dispute wheel, where `bgpnet safe` finds one (routers in a circle,
-each of which likes the way through the next better than its own); and what follows. --without leaves links out. With --play it plays orders
-(router by router, in lock step, and random ones by their seeds) until they rest, and counts how they end: how many
-seeds do is no odds of what a network does; --json has how many events, UPDATEs and rounds each took. --write prints one
-of them. With --timing it says which timing decides: the shortest two orders in which routers hear what they are told,
-and which end otherwise.
+each of which likes the way through the next better than its own); and what follows. --without leaves links out. With
+--play it plays orders (router by router, in lock step, and random ones by their seeds) until they rest, and counts how
+they end: how many seeds do is no odds of what a network does; --json has how many events, UPDATEs and rounds each took.
+--write prints one of them. With --timing it says which timing decides: the shortest two orders in which routers hear
+what they are told, and which end otherwise.
 
 What it finds is a witness that the program confirms: an assignment that `check` calls stable; a schedule that `play`
 plays; an order in which a state comes again (what routers keep, have told and heard, and what is on its way, as `trace`
@@ -29,8 +29,8 @@ import sys
 from bgpnet import jobs
 from bgpnet.answers import routes_json
 from bgpnet.live import warnings
-from bgpnet.network import path_text, read_link, read_network
-from bgpnet.program import Program, Refusal, Words, count, read_text, tool
+from bgpnet.network import network_asked, path_text, read_link
+from bgpnet.program import Refusal, Words, count, tool
 from bgpnet.settling import Order, Timing, found_of, is_confirmed, judged_assignments, play_orders, row_text
 
 
@@ -117,8 +117,7 @@ def main():
     jobs.add_word(words)
     words.add_argument("--json", action="store_true", help="print JSON")
     asked = words.parse_args()
-    program = Program(asked.program)
-    network = read_network(program, read_text(asked.network), asked.network)[0]
+    program, _, network, *_ = network_asked(asked, asked.network)
     without = list(dict.fromkeys(read_link(network, word) for word in asked.without))
     network.leave_out(frozenset(map(frozenset, without)))
     if asked.write is not None:

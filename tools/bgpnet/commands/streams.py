@@ -24,8 +24,8 @@ import sys
 from bgpnet.attributes import remark_of
 from bgpnet.captures import SECOND, connections_of, is_hex, spoken_of
 from bgpnet.decoding import WORDS, decoded, hex_lines, parts_of, without_refreshes
-from bgpnet.messages import (FAMILIES, FOUR_OCTET_ASN, KINDS, MARKER, NOTIFICATION, OPEN, ROUTE_REFRESH, SUBSEQUENT, UPDATE,
-                             capabilities_of, family_text, first_message, messages_of, path_identifiers)
+from bgpnet.messages import (FAMILIES, FOUR_OCTET_ASN, KINDS, MARKER, NOTIFICATION, OPEN, ROUTE_REFRESH, SUBSEQUENT,
+                             UPDATE, capabilities_of, family_text, first_message, messages_of, path_identifiers)
 from bgpnet.mrt import is_mrt, peerings_of
 from bgpnet.names import notification_text, open_text
 from bgpnet.network import Prefix
@@ -208,17 +208,12 @@ def told_lines(stream, found, identified, has_times, choice=ALL):
     yield from (line for _, line in notes[::-1])
 
 
-def shared_of(connection):
-    """The codes of the capabilities that both OPENs of a connection have."""
-    return set.intersection(*(set(capabilities_of(stream.octets) or {}) for stream in connection.streams.values()))
-
-
 def notes_of(connection, numbers):
     """A line for each capability of a connection that changes its messages."""
     both = " and ".join(str(numbers[stream]) for stream in connection.streams.values() if stream in numbers)
-    shared = shared_of(connection)
+    opens = [capabilities_of(stream.octets) or {} for stream in connection.streams.values()]
     for code, meaning in CAPABILITIES.items():
-        if code in shared:
+        if all(code in found for found in opens):
             yield f"{both}: both OPENs have capability {code}: {meaning}"
     if connection.has_identifiers:
         yield f"{both}: path identifiers pass (RFC 8050), which `decode` does not read"

@@ -293,7 +293,8 @@ def check_limits(graph):
 
 def from_below(graph, peers):
     """The routers, each behind its customers."""
-    customers = {router: [peer for peer in own if graph.kinds[router, peer] == CUSTOMER] for router, own in peers.items()}
+    customers = {router: [peer for peer in own if graph.kinds[router, peer] == CUSTOMER]
+                 for router, own in peers.items()}
     try:
         return list(graphlib.TopologicalSorter(customers).static_order())
     except graphlib.CycleError as why:
@@ -450,7 +451,7 @@ def main():
     words.add_argument("--prepend", metavar="U-V:N,..", help="U tells V its number N times more")
     words.add_argument("--around", type=count(1, 2**32 - 1), metavar="AS", help="with --keep: the router in the middle")
     words.add_argument("--keep", type=count(1, MOST_ROUTERS), metavar="N", help="take the N routers nearest to AS")
-    words.add_argument("--rounds", type=count(1, 1_000_000), default=1000, metavar="N", help="before the snapshot (1000)")
+    words.add_argument("--rounds", type=count(1, 10**6), default=1000, metavar="N", help="before the snapshot (1000)")
     words.add_argument("--order", type=count(0, 2**32), metavar="N", help="start sessions in the order of this seed")
     words.add_argument("--network", action="store_true", help="write no schedule, as for `bgpnet run` and tools/settle")
     asked = words.parse_args()

@@ -17,9 +17,10 @@ lost at once, and then one after the other takes the best that its peers have, i
 random ones (--orders). The program judges the ends.
 
 Of each state it prints behind which round it rests (`bgpnet trace` says so), or that it did not within a bound in the
-order of `rounds`, and how random orders of the same events end (--orders); how many UPDATEs were told; and of each prefix which routers have another path, who has none (cut off where no links lead
-to the origin), who has not the path of before when all is back, and what `bgpnet check` says of the routes in the
-network as it is then. Of --fail-each-link it also counts the stable assignments of each network that is left.
+order of `rounds`, and how random orders of the same events end (--orders); how many UPDATEs were told; and of each
+prefix which routers have another path, who has none (cut off where no links lead to the origin), who has not the path
+of before when all is back, and what `bgpnet check` says of the routes in the network as it is then. Of
+--fail-each-link it also counts the stable assignments of each network that is left.
 
 The status is 3 where a router loses its route, or a state does not rest; else 4 where a route is not as before when all
 is back; else 5 where a network that is left has not one stable assignment."""
@@ -32,9 +33,9 @@ from bgpnet.answers import routes_json
 from bgpnet.becoming import Change, check_alike
 from bgpnet.failures import Failure, Player, alike_key, seen_in
 from bgpnet.leftover import ends_left, is_safe, start_in
-from bgpnet.network import path_text, read_link, read_network, read_router
+from bgpnet.network import network_asked, path_text, read_link, read_network, read_router
 from bgpnet.playing import state_behind
-from bgpnet.program import Program, Refusal, Words, count, read_text, tool
+from bgpnet.program import Refusal, Words, count, read_text, tool
 from bgpnet.reports import read_report
 from bgpnet.tracing import rest_bound
 
@@ -126,7 +127,7 @@ class Outcome:
     def __init__(self, player, as_json):
         self.player, self.as_json = player, as_json
         self.losing, self.moving, self.other, self.unconfirmed = [], [], [], False
-        self.objects, self.several, self.unsafe, self.rows, self.known = [], [], [], {}, {}
+        self.objects, self.several, self.rows, self.known = [], [], {}, {}
 
     def see(self, title, state, last, place):
         """What is seen of a state, as JSON; it is printed where that is not asked for."""
@@ -142,7 +143,8 @@ class Outcome:
         player, without = self.player, frozenset(map(frozenset, failure.links))
         ends = ends_left(player.program, player.network, without, self.known)
         if any(number != 1 for number in ends.values()):
-            self.several.append(f"{failure.name()} ({', '.join(number_text(number) for number in set(ends.values()))})")
+            numbers = ["not counted" if number is None else str(number) for number in set(ends.values())]
+            self.several.append(f"{failure.name()} ({', '.join(numbers)})")
         return {str(prefix): {"ends": number, "safe": is_safe(player.program, player.network, prefix, without)}
                 for prefix, number in ends.items()}
 
@@ -164,11 +166,6 @@ class Outcome:
         if counts:
             found["ends"] = self.count(failure)
         self.objects.append(found)
-
-
-def number_text(number):
-    """A number of ends."""
-    return "not counted" if number is None else str(number)
 
 
 def cell_text(state, one):
@@ -199,10 +196,12 @@ def print_table(outcome):
 def print_sum(outcome, failures, back, counts=False):
     """What is found of several failures, in some lines."""
     print(f"{len(failures)} failures")
-    for names, said in ((outcome.losing, "a router loses its route"), (outcome.moving, "it does not rest in the order of `rounds`")) + (
-            ((outcome.other, "a route is not as before when all is back"),) if back else ()) + (
-            ((outcome.several, "what is left has not one end"),) if counts else ()):
-        print(f"  {said}: {', '.join(names) or 'none'}")
+    for names, said, is_asked in ((outcome.losing, "a router loses its route", True),
+                                  (outcome.moving, "it does not rest in the order of `rounds`", True),
+                                  (outcome.other, "a route is not as before when all is back", back),
+                                  (outcome.several, "what is left has not one end", counts)):
+        if is_asked:
+            print(f"  {said}: {', '.join(names) or 'none'}")
 
 
 # ---- words
@@ -232,11 +231,13 @@ def main():
     kinds.add_argument("--fail", metavar="U-V", nargs="+", help="the links fail together, and their ends see it")
     kinds.add_argument("--fail-each-link", action="store_true", help="each link fails by itself")
     kinds.add_argument("--crash", metavar="U", help="the router restarts, and forgets all")
-    kinds.add_argument("--becomes", metavar="FILE", help="the network becomes that of another text, of the same routers")
+    kinds.add_argument("--becomes", metavar="FILE",
+                       help="the network becomes that of another text, of the same routers")
     kinds.add_argument("--silent", metavar="U-V", help="nothing crosses the link, and nobody is told")
     words.add_argument("--then", metavar="U-V", nargs="+", help="these links fail too, behind the first failure")
     words.add_argument("--two", action="store_true", help="with --fail-each-link, each two links fail together")
-    words.add_argument("--table", action="store_true", help="with --fail-each-link, a table of failures and prefixes alone")
+    words.add_argument("--table", action="store_true",
+                       help="with --fail-each-link, a table of failures and prefixes alone")
     words.add_argument("--from", dest="begin", metavar="FILE", nargs="+",
                        help="begin in these routes: what `play` printed, or FRR's `show bgp ipv4 unicast json`")
     words.add_argument("--back", action="store_true", help="and what failed is there again")
@@ -257,9 +258,7 @@ def main():
         words.error("--back and --write are of a failure")
     if asked.then and not (asked.fail or asked.crash):
         words.error("--then goes with --fail or --crash")
-    program = Program(asked.program)
-    text = read_text(asked.network)
-    network, section, rest = read_network(program, text, asked.network)
+    program, text, network, section, rest = network_asked(asked, asked.network)
     if not network.origins:
         raise Refusal(f"{asked.network}: no origin, so no routes")
     if asked.scheduled and section != "schedule":
@@ -334,7 +333,8 @@ def answer(program, network, scheduled, failures, asked):
     if asked.then:
         player.then = list(dict.fromkeys(read_link(network, word) for word in asked.then))
     if asked.write:
-        sys.stdout.write(network.remarks + player.text([stage for stage, _ in player.failing_stages(failures[0], asked.back)]))
+        stages = player.failing_stages(failures[0], asked.back)
+        sys.stdout.write(network.remarks + player.text([stage for stage, _ in stages]))
         return 0
     player.before = player.states([])[0]
     outcome, counts = Outcome(player, asked.json or asked.table), asked.fail_each_link
@@ -343,7 +343,7 @@ def answer(program, network, scheduled, failures, asked):
     staged = [player.failing_stages(failure, asked.back) for failure in failures] if rests else []
     for failure, stages, states in zip(failures, staged, jobs.in_order(player.states, staged, asked.jobs, "failures")):
         outcome.see_failure(failure, stages, states, counts)
-    status = (3 if outcome.losing or outcome.moving or not rests else 4 if outcome.other else 5 if outcome.several else 0)
+    status = 3 if outcome.losing or outcome.moving or not rests else 4 if outcome.other else 5 * bool(outcome.several)
     if asked.json:
         found = {"network": asked.network, "bound": player.bound, "before": state_object(player.before, before),
                  "failures": outcome.objects, "status": status}

@@ -1,7 +1,7 @@
 """Runs a set of which an AS has several routers by real processes of FRR: each router with zebra, static routes and its
 IGP in a namespace of its own, its interfaces joined as their subnets say.
 
-Where a file gives the edges of the IGP, no IGP runs: each router gets routes with the metrics of these edges by hand."""
+Where a file gives the edges of the IGP, no IGP runs: each router gets routes with their metrics by hand."""
 import pathlib
 import subprocess
 import time
@@ -34,7 +34,7 @@ def make_group(folder):
 
 
 class AsTable(frr.Table):
-    """What a router has for a prefix, with what counts in an AS of several routers; routes that it can't use are none."""
+    """What a router has for a prefix, with what counts in an AS of several routers, but no route that it can't use."""
 
     def __init__(self, said):
         super().__init__({**said, "paths": [path for path in said.get("paths", []) if path.get("valid")]})
@@ -85,8 +85,8 @@ class AsDaemon(frr.Daemon):
 
 
 class AsLab(Lab):
-    """The processes of a set. `metrics` has by router the addresses to which it gets a route by hand, each with the next
-    hop and the metric."""
+    """The processes of a set. `metrics` has by router the addresses to which it gets a route by hand, each with the
+    next hop and the metric."""
 
     def __init__(self, tree, routers, texts, folder, metrics=None):
         super().__init__({"FRR": tree}, routers, texts, folder)
@@ -180,8 +180,8 @@ class AsLab(Lab):
 
 
 def routes_by_hand(routers, edges):
-    """The routes that the edges of a file give the routers of a set: by router the addresses, each with the next hop and
-    the metric."""
+    """The routes that the edges of a file give the routers of a set: by router the addresses, each with the next hop
+    and the metric."""
     costs = edges.by_number({routers.label(number): number for number in routers.routers})
     on, inside = {}, {}
     for (one, other), cost in costs.items():

@@ -50,7 +50,7 @@ class Maker:
         self.both = set()  # the pairs of which each is the other's client
         self.mesh = {at: self.sessions_inside([place for place, of in enumerate(self.of) if of == at])
                      for at in range(len(sizes))}
-        self.far = {pair for pair, link in self.pairs.items() if self.mode not in ("edges", "isis") and draw.chance(0.08)}
+        self.far = {pair for pair in self.pairs if self.mode not in ("edges", "isis") and draw.chance(0.08)}
         self.near = {pair for own in self.mesh.values() for pair in own if draw.chance(0.12)}
         self.hop = [draw.of(("none", "self", "self", "force")) for _ in sizes]
         self.med = [draw.chance(0.6) for _ in sizes]
@@ -111,7 +111,8 @@ class Maker:
         for link in self.links:
             for one in link.ends:
                 for other in link.ends:
-                    if one < other and self.of[one] != self.of[other] and (len(link.ends) == 2 or self.draw.chance(0.8)):
+                    if one < other and self.of[one] != self.of[other] and (
+                            len(link.ends) == 2 or self.draw.chance(0.8)):
                         found.setdefault((one, other), link)
         return found
 
@@ -277,17 +278,13 @@ class Text:
                            for pair, client in maker.mesh[self.at].items())
         if is_reflector and draw.chance(0.4):
             lines.append(f"bgp cluster-id {draw.of(('9.9.9.9', 7, '9.9.9.8'))}")
-        for line, part in (("bgp deterministic-med", 0.3), ("bgp bestpath med missing-as-worst", 0.5 * maker.is_worst),
-                           ("no bgp suppress-duplicates", 1.0 * maker.is_worst),
-                           ("bgp bestpath as-path ignore", 0.05), ("bgp default local-preference 150", 0.1),
-                           ("bgp bestpath peer-type multipath-relax", 0.08),
-                           ("bgp bestpath as-path multipath-relax", 0.1),
-                           ("maximum-paths ibgp 4 equal-cluster-length", 0.1),
-                           ("no bgp client-to-client reflection", 0.12 * is_reflector),
-                           ("bgp route-reflector allow-outbound-policy", 0.2 * is_reflector)):
-            if draw.chance(part):
-                lines.append(line)
-        return lines
+        return lines + draw.each((
+            ("bgp deterministic-med", 0.3), ("bgp bestpath med missing-as-worst", 0.5 * maker.is_worst),
+            ("no bgp suppress-duplicates", 1.0 * maker.is_worst), ("bgp bestpath as-path ignore", 0.05),
+            ("bgp default local-preference 150", 0.1), ("bgp bestpath peer-type multipath-relax", 0.08),
+            ("bgp bestpath as-path multipath-relax", 0.1), ("maximum-paths ibgp 4 equal-cluster-length", 0.1),
+            ("no bgp client-to-client reflection", 0.12 * is_reflector),
+            ("bgp route-reflector allow-outbound-policy", 0.2 * is_reflector)))
 
     # ---- the IGP
 
@@ -315,7 +312,8 @@ class Text:
             lines.append("exit")
         if maker.mode == "ospf" and has_igp:
             lines.append("router ospf")
-            lines += [" redistribute connected" + draw.of(("", " metric 7", " metric 4 metric-type 1"))] * takes_connected
+            kind = draw.of(("", " metric 7", " metric 4 metric-type 1"))
+            lines += [f" redistribute connected{kind}"] * takes_connected
             lines += [f" passive-interface e{at}" for at, link in enumerate(maker.of_place(place))
                       if not maker.is_inside(link)]
             lines += networks + ["exit"]

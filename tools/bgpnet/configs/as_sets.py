@@ -108,9 +108,9 @@ class AsSet(Set):
                 self.owners[neighbor.address] = ids[neighbor.address], ids[neighbor.address].router_id.place
             elif owner is not None and not self.may_be(router, neighbor, owner):
                 of = "another one" if neighbor.asn.name == "external" else neighbor.asn.name
-                self.reasons.add(refusal(neighbor.asn.place, f"neighbor {neighbor.key} is AS {of} here, and its address "
-                                                             f"is one of {self.label(owner.number)}, AS {owner.asn}, at "
-                                                             f"{self.owners[neighbor.address][1]}"))
+                self.reasons.add(refusal(
+                    neighbor.asn.place, f"neighbor {neighbor.key} is AS {of} here, and its address is one of "
+                    f"{self.label(owner.number)}, AS {owner.asn}, at {self.owners[neighbor.address][1]}"))
 
     @staticmethod
     def may_be(router, neighbor, other):
@@ -181,8 +181,8 @@ class AsSet(Set):
         worst, duplicates = end.router.options.get("bgp bestpath med missing-as-worst"), far.router.suppresses
         if worst and worst.name and (duplicates is None or duplicates.name):
             end.router.warn(worst.place, f"{self.label(far.router.number)} tells no route anew by iBGP that has no MED "
-                                         "where the last one had 0, so that the choice may hang on which came first: not "
-                                         "with 'no bgp suppress-duplicates' there")
+                            "where the last one had 0, so that the choice may hang on which came first: not with 'no "
+                            "bgp suppress-duplicates' there")
 
     def join(self, one, other):
         """Makes a session of two ends that reach each other. One that lines shut is passed over for that; where links
@@ -213,7 +213,7 @@ class AsSet(Set):
             if router.reach.metric(neighbor.address) is not None:
                 return None
             return neighbor.place, f"neighbor {neighbor.key} is not reached: there is no session"
-        shut = next((interface for interface in router.reach.shut if is_on(interface, neighbor.address)), None)
+        shut = next((one.name for one in router.reach.shut if is_on(one, neighbor.address)), None)
         if shut is None or router.reach.subnet(neighbor.address) is not None:
             return None
-        return neighbor.place, f"neighbor {neighbor.key} is on interface {shut.name}, which is shut: there is no session"
+        return neighbor.place, f"neighbor {neighbor.key} is on interface {shut}, which is shut: there is no session"

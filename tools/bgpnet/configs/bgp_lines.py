@@ -1,5 +1,6 @@
 """The lines below `router bgp` of a configuration of FRR: the router's own, and those of its neighbors."""
 from bgpnet.configs.blocks import NOT_TAKEN, Blocks
+from bgpnet.configs.commands import REFUSED
 from bgpnet.configs.lists import mask_of
 from bgpnet.configs.places import Passed
 from bgpnet.configs.router import SENT, Line, Neighbor, Network
@@ -30,7 +31,7 @@ class BgpLines(Blocks):
     def do_again(self, words, line):
         """`router bgp` without a number is the one that is there."""
         if self.router.asn is None:
-            self.do_cut(words, line)
+            self.refuse(f"'{line.strip()}': {REFUSED['cut']}")
         self.block = "bgp"
 
     def do_router_id(self, words, line):
@@ -107,7 +108,8 @@ class BgpLines(Blocks):
         if ":" in key:
             self.sixth.setdefault(key, (self.place, router.activates))
             return
-        remote, address = Line(self.remote_of(asn), self.place), address_of(key)
+        number = router.asn if asn == "internal" else asn if asn == "external" else int(asn)
+        remote, address = Line(number, self.place), address_of(key)
         if address is None:
             if key not in router.groups:
                 self.refuse(f"neighbor {key}: {NOT_TAKEN}: no line above says that it is a group")
@@ -119,10 +121,6 @@ class BgpLines(Blocks):
         elif found.group and found.group.remote:
             self.refuse(f"neighbor {key} remote-as {asn}: {NOT_TAKEN}: its group says {found.group.remote.name}")
         found.remote, found.place = remote, self.place
-
-    def remote_of(self, word):
-        """The AS number that a word of `remote-as` says, or `external`."""
-        return self.router.asn if word == "internal" else word if word == "external" else int(word)
 
     def do_flag(self, words, line):
         """What a neighbor has or has not, by the word of its line."""
@@ -208,9 +206,6 @@ class BgpLines(Blocks):
 
     def do_weight(self, words, line):
         self.say(words, "weight", int(words[-1]) if words[0] != "no" else 0)
-
-    def do_shutdown_by_time(self, words, line):
-        self.refuse(f"'{line.strip()}': whether the session stays depends on time")
 
     def do_activate(self, words, line):
         is_active = words[0] != "no"

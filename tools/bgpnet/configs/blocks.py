@@ -2,6 +2,7 @@
 import re
 
 from bgpnet.configs import commands
+from bgpnet.configs.interfaces import Interface
 from bgpnet.configs.places import Passed, Place, Reasons, refusal
 from bgpnet.configs.router import Router
 from bgpnet.configs.syntax import Unreadable, prefix_of
@@ -14,11 +15,6 @@ READ = 8, 4  # the version whose language this is
 MOST_HOST = 255
 
 
-def cut_lines(text):
-    """The lines of a text, each with its number, without a CR at its end."""
-    return [(number, line.rstrip("\r")) for number, line in enumerate(text.split("\n"), 1)]
-
-
 # What never stands inside an address family.
 OUTSIDE = ("router", "address-family", "route-map", "interface", "end")
 
@@ -28,19 +24,19 @@ def indent_of(line):
 
 
 class Blocks:
-    """Obeys the lines of one file. `reasons` has what is refused of them; what hangs on a refused line is not refused by
-    itself."""
+    """Obeys the lines of one file. `reasons` has what is refused of them; what hangs on a refused line is not refused
+    by itself."""
 
     def __init__(self, text, name):
         self.router, self.block, self.place = Router(name), "config", Place(name, 0)
         self.entry, self.foreign, self.interface, self.indent = None, None, None, None
         self.reasons, self.of_maps, self.lost, self.sixth = Reasons(), {}, set(), {}
         is_above = True
-        for number, line in cut_lines(text):
+        for number, line in enumerate(text.split("\n"), 1):
             is_above = is_above and line.strip() in PRINTED_ABOVE
             self.place = Place(name, number)
             if not is_above:
-                self.try_to_obey(line)
+                self.try_to_obey(line.rstrip("\r"))
         self.judge_sixth()
         self.judge_maps()
 
@@ -150,8 +146,9 @@ class Blocks:
         action, words = match.command.action, list(match.words)
         if action in ("foreign", "addresses", "warned", "ignored") and self.block == "config":
             self.router.foreign.add(self.place.line)
-        if match.command.why and self.block == "route-map" and action != "undone":
-            self.of_maps.setdefault(self.entry.map_name, []).append((self.place, f"'{line.strip()}': {match.command.why}"))
+        if match.command.why and self.block == "route-map" and action not in ("undone", "cut"):
+            why = self.place, f"'{line.strip()}': {match.command.why}"
+            self.of_maps.setdefault(self.entry.map_name, []).append(why)
             return
         if match.command.why:
             self.refuse(f"'{line.strip()}': {match.command.why}")
@@ -177,9 +174,6 @@ class Blocks:
     def do_finish(self, words, line):
         self.router.end = self.place.line
 
-    def do_cut(self, words, line):
-        self.refuse(f"'{line.strip()}': the command is cut short")
-
     def do_wrong(self, words, line):
         self.refuse(f"'{line.strip()}': {NOT_TAKEN}")
 
@@ -197,7 +191,8 @@ class Blocks:
             self.router.foreign.add(self.place.line)
 
     def do_addresses(self, words, line):
-        self.foreign, self.interface = "interface", self.router.interface(words[1], self.place)
+        self.foreign = "interface"
+        self.interface = self.router.interfaces.setdefault(words[1], Interface(words[1], self.place))
 
     def do_host(self, words, line):
         if words[0] == "hostname":

@@ -44,6 +44,8 @@ REFUSED = {
     "backdoor": "a backdoor or labelled network",
     "alias": "names of communities of one's own",
     "extcommunity": "extended communities are not read",
+    "cut": "the command is cut short",
+    "shutdown_by_time": "whether the session stays depends on time",
     "delay": "no delay: a map acts for a network only where it stands above its line",
 }
 
@@ -90,16 +92,11 @@ prefixes   ip prefix-list WORD [seq (1-4294967295)] <permit|deny> A.B.C.D/M <ge 
 remark     ip prefix-list WORD description REST...
 ignored    no ip prefix-list sequence-number
 wrong      ip prefix-list WORD REST...
-paths      bgp as-path access-list WORD <permit|deny> REST...
-paths      bgp as-path access-list WORD seq (0-4294967295) <permit|deny> REST...
-communities bgp community-list <(1-99)|standard WORD> <permit|deny> AA:NN...
-communities bgp community-list <(1-99)|standard WORD> seq (0-4294967295) <permit|deny> AA:NN...
-communities bgp community-list <(100-500)|expanded WORD> <permit|deny> AA:NN...
-communities bgp community-list <(100-500)|expanded WORD> seq (0-4294967295) <permit|deny> AA:NN...
-communities bgp large-community-list <(1-99)|standard WORD> <permit|deny> AA:BB:CC...
-communities bgp large-community-list <(1-99)|standard WORD> seq (0-4294967295) <permit|deny> AA:BB:CC...
-communities bgp large-community-list <(100-500)|expanded WORD> <permit|deny> AA:BB:CC...
-communities bgp large-community-list <(100-500)|expanded WORD> seq (0-4294967295) <permit|deny> AA:BB:CC...
+paths      bgp as-path access-list WORD [seq (0-4294967295)] <permit|deny> REST...
+communities bgp community-list <(1-99)|standard WORD> [seq (0-4294967295)] <permit|deny> AA:NN...
+communities bgp community-list <(100-500)|expanded WORD> [seq (0-4294967295)] <permit|deny> AA:NN...
+communities bgp large-community-list <(1-99)|standard WORD> [seq (0-4294967295)] <permit|deny> AA:BB:CC...
+communities bgp large-community-list <(100-500)|expanded WORD> [seq (0-4294967295)] <permit|deny> AA:BB:CC...
 old        ip <community-list|large-community-list|extcommunity-list|as-path> REST...
 graceful   bgp graceful-shutdown
 alias      bgp community alias WORD WORD
@@ -166,8 +163,7 @@ shutdown   bgp default shutdown
 ignored    no bgp default shutdown
 family     bgp default REST...
 dampening  bgp dampening [REST...]
-family_ipv4 address-family ipv4
-family_ipv4 address-family ipv4 unicast
+family_ipv4 address-family ipv4 [unicast]
 family     address-family ipv4 <multicast|vpn|labeled-unicast|flowspec>
 apart      address-family ipv6 [<unicast|multicast|vpn|labeled-unicast|flowspec>]
 apart      address-family l2vpn evpn
@@ -204,8 +200,7 @@ interval   no PEER advertisement-interval [(0-600)]
 ignored    no PEER <description [REST...]|tcp-mss [(1-65535)]|port [(0-65535)]>
 ignored    no PEER timers [<(0-65535) (0-65535)|connect|connect (1-65535)|delayopen|delayopen (0-65535)>]
 ignored    no PEER <local-as|maximum-prefix|maximum-prefix-out|local-role> [REST...]
-warned     PEER bfd [<check-control-plane-failure|profile WORD>]
-warned     PEER bfd (2-255) (50-60000) (50-60000)
+warned     PEER bfd [<check-control-plane-failure|profile WORD|(2-255) (50-60000) (50-60000)>]
 ignored    no PEER bfd [<check-control-plane-failure|profile|profile WORD>]
 role       PEER local-role REST...
 local-as   PEER local-as REST...
@@ -232,8 +227,7 @@ policy     [no] PEER <distribute-list|prefix-list|filter-list|route-map> WORD <i
 send       [no] PEER send-community [<both|all|extended|standard|large>]
 ignored    [no] PEER <soft-reconfiguration inbound|disable-addpath-rx>
 hop_self   [no] PEER next-hop-self [<force|all>]
-warned     PEER maximum-prefix (1-4294967295) [(1-100)] [force]
-warned     PEER maximum-prefix (1-4294967295) [(1-100)] <warning-only|restart (1-65535)> [force]
+warned     PEER maximum-prefix (1-4294967295) [(1-100)] [<warning-only|restart (1-65535)>] [force]
 flag       [no] PEER route-reflector-client
 server     PEER route-server-client
 unchanged  PEER attribute-unchanged [REST...]
@@ -256,10 +250,8 @@ redistribute redistribute REST...
 ignored    distance bgp (1-255) (1-255) (1-255)
 ignored    [no] distance (1-255) A.B.C.D/M [WORD]
 ignored    no distance bgp [REST...]
-ignored    table-map WORD
-ignored    no table-map WORD
-ignored    maximum-paths (1-256)
-ignored    maximum-paths ibgp (1-256)
+ignored    [no] table-map WORD
+ignored    maximum-paths [ibgp] (1-256)
 clusters   maximum-paths ibgp (1-256) equal-cluster-length
 ignored    no maximum-paths [(1-256)]
 clusters   no maximum-paths ibgp [(1-256) [equal-cluster-length]]
@@ -274,17 +266,13 @@ ignored    description REST...
 undone     no <call|on-match|continue|match|set> [REST...]
 ignored    no description [REST...]
 next       on-match next
-goto       on-match goto (1-65535)
-goto       continue (1-65535)
+goto       <on-match goto|continue> (1-65535)
 cut        continue
 call       call WORD
-match_list match ip address WORD
-match_list match ip address prefix-list WORD
+match_list match ip address [prefix-list] WORD
 match_list match as-path WORD
-match_list match community WORD [exact-match]
-match_list match large-community WORD [exact-match]
-match_value match metric (0-4294967295)
-match_value match local-preference (0-4294967295)
+match_list match <community|large-community> WORD [exact-match]
+match_value match <metric|local-preference> (0-4294967295)
 match_value match origin <igp|egp|incomplete>
 match      match <interface|tag|mac|evpn|source-vrf|alias|probability|peer|rpki|rpki-extcommunity> REST...
 match      match ip <next-hop|route-source> <WORD|prefix-list WORD>

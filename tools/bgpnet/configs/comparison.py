@@ -143,7 +143,7 @@ class Ends:
 
     def may_change(self):
         """Whether a set that does not become quiet is what may be: no end, or a wheel."""
-        return any(self.wheel.values()) or any(not found and are_all for found, are_all in self.stable.values())
+        return any(self.wheel.values()) or self.must_change()
 
     def must_change(self):
         return any(not found and are_all for found, are_all in self.stable.values())

@@ -1,6 +1,6 @@
-"""Where packets go in an AS of several routers: each router sends them towards the next hop of its own route, so they may
-leave the AS elsewhere than the route says, or go round (Griffin and Wilfong, On the Correctness of IBGP Configuration,
-2002: deflections)."""
+"""Where packets go in an AS of several routers: each router sends them towards the next hop of its own route, so they
+may leave the AS elsewhere than the route says, or go round (Griffin and Wilfong, On the Correctness of IBGP
+Configuration, 2002: deflections)."""
 from bgpnet.configs.ribs import shortest_ways
 
 

@@ -1,4 +1,4 @@
-"""Which addresses a router reaches, and by what metric: by edges that a file gives, or by what the configurations say."""
+"""Which addresses a router reaches, and by what metric: by edges of a file, or by what the configurations say."""
 from bgpnet.configs.places import Place, Reasons, refusal
 from bgpnet.configs.ribs import Ospf, Ribs, lengths_from, network_of, up_interfaces
 from bgpnet.configs.syntax import number_of
@@ -9,7 +9,7 @@ MOST_COST = 2**24 - 1
 
 
 class Edges:
-    """The edges of an IGP as a file gives them: in each line the names of two routers and a cost, or one for each way."""
+    """The edges of an IGP as a file gives them: in each line the names of two routers and a cost, or one each way."""
 
     def __init__(self, text, name):
         self.name, self.said = name, []
@@ -89,9 +89,9 @@ def is_on(interface, address):
 
 class Igp:
     """The IGPs of the ASes of a set: by edges of a file, where there are some; else by what the configurations say. A
-    link of `down`, two routers, fails: its edge, and their interfaces on a subnet of these two. `inside` has for each AS
-    the costs of its edges by router and neighbor, as far as they are known. Nothing is said of an AS of which a router
-    is not sound."""
+    link of `down`, two routers, fails: its edge, and their interfaces on a subnet of these two. `inside` has for each
+    AS the costs of its edges by router and neighbor, as far as they are known. Nothing is said of an AS of which a
+    router is not sound."""
 
     def __init__(self, routers, edges=None, down=()):
         self.set, self.edges, self.inside = routers, {}, {}

@@ -67,8 +67,8 @@ class IgpLines(Blocks):
             self.interface_line(words)
         elif self.foreign == "ospf" and words[0] not in ("exit", "!"):
             self.ospf_line(words)
-        elif self.foreign == "isis" and words[0] not in ("exit", "!"):
-            self.isis_line(words)
+        elif self.foreign == "isis" and words[0] not in ("exit", "!") and not " ".join(words).startswith(OF_ISIS):
+            self.unread(" ".join(words))
 
     def interface_line(self, words):
         interface, number = self.interface, number_of(words[-1])
@@ -121,10 +121,6 @@ class IgpLines(Blocks):
             self.unread(" ".join(words))
         else:
             self.router.igp.redistributed[kind].append(Redistributed(words[1], metric, adds, self.place))
-
-    def isis_line(self, words):
-        if not " ".join(words).startswith(OF_ISIS):
-            self.unread(" ".join(words))
 
 
 def area_of(word):

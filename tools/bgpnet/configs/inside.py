@@ -116,11 +116,8 @@ def is_direct(router, neighbor):
 def leaving(router, neighbor, far, route):
     """The route that a router tells a neighbor of another AS, by its next hop: the router itself, or a third party on a
     subnet that the neighbor is on too (RFC 4271 section 5.1.3)."""
-    if route.next_hop is not None and not (
-            neighbor.value("next-hop-self", False) or neighbor.value("next-hop-self force", False)):
-        if not router.reach.is_shared(route.next_hop, neighbor.address):
-            route.next_hop = None
-    else:
+    if neighbor.value("next-hop-self") or neighbor.value("next-hop-self force") or (
+            route.next_hop is not None and not router.reach.is_shared(route.next_hop, neighbor.address)):
         route.next_hop = None
     route.originator, route.clusters, route.heard = None, (), None
     return route

@@ -25,9 +25,9 @@ class Interface:
 
 class IgpSaid:
     """What a file says of an IGP. `networks` are prefixes whose interfaces OSPF runs on, each with its area and line;
-    `statics` are static routes; `passive` has the names of passive interfaces, `default` among them for all but those of
-    `active`; `redistributed` has by protocol what it takes of others; `reference` is the bandwidth that OSPF divides by
-    that of an interface; `resolves_by_default` says whether the default route reaches next hops; `unread` are lines
+    `statics` are static routes; `passive` has the names of passive interfaces, `default` among them for all but those
+    of `active`; `redistributed` has by protocol what it takes of others; `reference` is the bandwidth that OSPF divides
+    by that of an interface; `resolves_by_default` says whether the default route reaches next hops; `unread` are lines
     that change the IGP and are not read, with their places."""
 
     def __init__(self):

@@ -60,8 +60,8 @@ class Lab:
         daemon = self.daemons[asn]
         libraries = ":".join(f"{self.trees[daemon.language]}/{one}" for one in LIBRARIES)
         with open(daemon.folder / log, "w") as out:
-            return subprocess.Popen(self.inside(asn, words), env=dict(os.environ, LD_LIBRARY_PATH=libraries), stdout=out,
-                                    stderr=subprocess.STDOUT, stdin=subprocess.DEVNULL)
+            return subprocess.Popen(self.inside(asn, words), env=dict(os.environ, LD_LIBRARY_PATH=libraries),
+                                    stdout=out, stderr=subprocess.STDOUT, stdin=subprocess.DEVNULL)
 
     # ---- namespaces
 
@@ -167,8 +167,8 @@ class Lab:
 
     def wait(self, down=None):
         """Waits until the set is quiet, the session of a link down or none: `quiet`, `changing`, or `down` where
-        sessions do not come up. Where UPDATEs wait for some seconds it has to be quiet for longer. A machine that is slow
-        to answer is looked at less often."""
+        sessions do not come up. Where UPDATEs wait for some seconds it has to be quiet for longer. A machine that is
+        slow to answer is looked at less often."""
         if not self.wait_for(lambda: self.are_up(down), NO_SESSION):
             return "down"
         if self.is_far:

@@ -2,7 +2,7 @@
 from functools import partial
 from itertools import permutations
 
-from bgpnet.configs.pairs import groups_of, in_order, refuse_circle, shortest_circle
+from bgpnet.configs.pairs import all_in_order, groups_of
 from bgpnet.configs.routes import MOST
 from bgpnet.network import MOST_PATHS
 
@@ -27,8 +27,8 @@ def compares_metric(router, one, other):
 
 
 def compares_all(router, group):
-    """Whether the metrics of all ways of a group are compared; None where some are, and False where none has to be, since
-    those that begin with the same AS have one."""
+    """Whether the metrics of all ways of a group are compared; None where some are, and False where none has to be,
+    since those that begin with the same AS have one."""
     firsts = {way.route.path[:1] for way in group}
     if len(firsts) == 1 or router.option("bgp always-compare-med"):
         return True
@@ -164,13 +164,8 @@ class Order:
             if judged < 0 or not judged and is_other and \
                     self.last_key(kinds[other][0]) < self.last_key(kinds[one][0]):
                 above[one].add(other)
-        found, left = in_order(kinds, above)
-        if left:
-            paths = [kinds[kind][0].path for kind in shortest_circle(left, above)]
-            place = self.set.ends[self.router.number][paths[0][1]].neighbor.place
-            refuse_circle(place, f"{self.router.asn} {self.prefix}", paths,
-                          "MED is compared only where the paths begin with the same AS")
-        found = {kind: kinds[kind] for kind in found}
+        why = "MED is compared only where the paths begin with the same AS"
+        found = {kind: kinds[kind] for kind in all_in_order(self, kinds, above, why)}
         tie = Tie(found, by_metric)
         if tie.tied():
             self.note_tie(tie)

@@ -12,8 +12,8 @@ Alone = namedtuple("Alone", "ways ties")
 
 
 class Origins(Speaker):
-    """Stands behind routers that announce the same prefixes. Each of them hears its own route from it, and tells it none
-    that it takes."""
+    """Stands behind routers that announce the same prefixes. Each of them hears its own route from it, and tells it
+    none that it takes."""
 
     language, is_origins = "FRR", True
 

@@ -1,4 +1,4 @@
-"""Neighbors without a configuration: what an AS outside a set was seen to announce, as the configuration of a router."""
+"""Neighbors without a configuration: what an AS outside a set was seen to announce, as a router's configuration."""
 import struct
 
 from bgpnet.attributes import AS_PATH, Update, attributes_of, segments_of
@@ -50,7 +50,8 @@ class Outside:
     def read_json(self, text):
         """What FRR prints of a neighbor's routes, or of a table: then those whose path begins with the AS."""
         for said in objects_of(text, self.name):
-            table = next((said[key] for key in TABLES if isinstance(said, dict) and isinstance(said.get(key), dict)), None)
+            found = [said.get(key) for key in TABLES] if isinstance(said, dict) else []
+            table = next((one for one in found if isinstance(one, dict)), None)
             if table is None:
                 raise Refusal(f"{self.name}: no routes as FRR prints them: none of {', '.join(TABLES)}")
             for word, routes in table.items():
@@ -81,8 +82,9 @@ class Outside:
 
     def read_update(self, body, width):
         try:
-            withdrawn, announced = prefixes_of(body)
-            path = path_of(Update(body).attributes.get(AS_PATH, b""), width)
+            update = Update(body)
+            withdrawn, announced = (list(read_prefixes(part)) for part in (update.withdrawn, update.announced))
+            path = path_of(update.attributes.get(AS_PATH, b""), width)
         except (struct.error, IndexError, ValueError):
             return
         for prefix in withdrawn:
@@ -103,10 +105,9 @@ class Outside:
         for router, neighbor in ends:
             near = address_near(router, neighbor)
             lines += [f" neighbor {near} remote-as {router.asn}", f" neighbor {near} update-source {neighbor.key}"]
-            lines += [f" neighbor {near} {kind} {line.name}" for kind in ("password",)
-                      for line in [neighbor.line(kind)] if line]
-            hops = neighbor.line("ttl-security")
-            lines += [f" neighbor {near} ttl-security hops {hops.name}"] if hops else []
+            for kind, words in (("password", "password"), ("ttl-security", "ttl-security hops")):
+                line = neighbor.line(kind)
+                lines += [f" neighbor {near} {words} {line.name}"] if line else []
         maps = {path: f"SEEN-{at}" for at, path in enumerate(dict.fromkeys(self.paths.values()), 1)}
         lines += [f" network {prefix} route-map {maps[path]}" for prefix, path in self.paths.items()]
         lines.append("exit")
@@ -130,14 +131,8 @@ def address_near(router, neighbor):
     return dotted(router.router_id.name)
 
 
-def prefixes_of(body):
-    """The prefixes that an UPDATE withdraws and announces in the fields of RFC 4271."""
-    size = struct.unpack_from(">H", body)[0]
-    end = 4 + size + struct.unpack_from(">H", body, 2 + size)[0]
-    return [list(read_prefixes(part)) for part in (body[2:2 + size], body[end:])]
-
-
 def read_prefixes(octets):
+    """The prefixes that a field of RFC 4271 has."""
     at = 0
     while at < len(octets):
         length = octets[at]
@@ -155,4 +150,3 @@ def path_of(value, width):
     if any(kind != 2 for kind, _ in segments):
         return ()
     return tuple(int(number) for _, numbers in segments for number in numbers)
-

@@ -52,6 +52,16 @@ def shortest_circle(left, above):
     return best
 
 
+def all_in_order(order, kinds, above, why):
+    """The kinds of an order of ways, each behind those that `above` has for it; a circle is refused."""
+    found, left = in_order(kinds, above)
+    if left:
+        paths = [kinds[kind][0].path for kind in shortest_circle(left, above)]
+        place = order.set.ends[order.router.number][paths[0][1]].neighbor.place
+        refuse_circle(place, f"{order.router.asn} {order.prefix}", paths, why)
+    return found
+
+
 def refuse_circle(place, of, paths, why, text=path_text):
     """Refuses paths that are each better than the next, and the last than the first."""
     said = " over ".join(text(path) for path in paths + paths[:1])

@@ -56,7 +56,8 @@ class PolicyLines(Blocks):
         """Refuses an entry of a number that another form of entry has: of that FRR may leave something."""
         former = found.entries.get(number)
         if former and form_of(former.text) != form_of(text):
-            self.refuse(f"'{line.strip()}': {former.place} says something of another form by this number: leave one out")
+            self.refuse(f"'{line.strip()}': {former.place} says something of another form by this number: leave one "
+                        "out")
 
     @staticmethod
     def block_of(rest):
@@ -106,7 +107,7 @@ class PolicyLines(Blocks):
 
     def do_paths(self, words, line):
         permits, number, _ = self.numbered(words, 4)
-        text = self.rest_of(line, 5 if number is None else 7)
+        text = " ".join(line.split()[5 if number is None else 7:])
         found = self.list_of("as-path", words[3])
         self.add_once(found, number, Entry(permits, self.expression(text, path_expression, line), text, self.place))
 
@@ -114,11 +115,6 @@ class PolicyLines(Blocks):
         """Adds an entry, unless one says the same: FRR drops it in silence."""
         if found.double(entry.permits, entry.text) is None:
             found.add(found.next_number() if number is None else number, entry)
-
-    @staticmethod
-    def rest_of(line, count):
-        """What stands behind so many words of a line, its words one blank apart."""
-        return " ".join(line.split()[count:])
 
     def do_communities(self, words, line):
         kind = words[1][:-len("-list")]

@@ -2,6 +2,8 @@
 seed."""
 import random
 
+# The peer through which a router of a gadget likes its routes best, by their places.
+LIKED = {"disagree": {1: 2, 2: 1}, "bad": {1: 2, 2: 3, 3: 1}, "good": {1: 2, 2: 3}, "wedgie": {2: 1, 1: 2}}
 PREFIXES = ("10.1.0.0/16", "10.1.1.0/24", "10.2.0.0/16", "192.168.7.0/24", "172.16.0.0/12", "10.1.128.0/17")
 
 
@@ -19,6 +21,10 @@ class Draw:
 
     def chance(self, part):
         return self.random() < part
+
+    def each(self, chances):
+        """The things of which each comes by a chance of its own."""
+        return [thing for thing, part in chances if self.chance(part)]
 
     def some(self, among, count):
         left, found = list(among), []
@@ -58,6 +64,10 @@ class Maker:
                       "bad": {(0, 1), (0, 2), (0, 3), (1, 2), (2, 3), (1, 3)},
                       "good": {(0, 1), (0, 2), (0, 3), (1, 2), (2, 3), (1, 3)}}[self.gadget]
         return sorted(links)
+
+    def asn_of_set(self):
+        """The number of an AS, mostly one of the set."""
+        return self.draw.of(self.asns if self.draw.chance(0.9) else [64999])
 
     def router_id(self, place):
         """The router id of a router: its address, or a random one where the set has such."""

@@ -1,7 +1,7 @@
 """Makes random sets of configurations, the same for the same seed: 3 to 10 routers, with every construct that is read,
 and gadgets whose ends are several or none."""
 from bgpnet.configs import random_networks
-from bgpnet.configs.random_networks import PREFIXES
+from bgpnet.configs.random_networks import LIKED, PREFIXES
 
 WELL_KNOWN = ("no-export", "no-advertise", "local-AS", "graceful-shutdown", "blackhole", "no-peer")
 REGULAR = ("^$", "_{0}_", "^{0}_", "_{0}$", "{0}", "^[0-9]+$", "^{0}$", ".*", "_{0}_{1}_", "^({0}|{1})_", "^.* .* ",
@@ -33,9 +33,6 @@ class Text:
     def prefix(self):
         return self.draw.of(self.maker.prefixes if self.draw.chance(0.7) else PREFIXES + ("10.0.0.0/8", "0.0.0.0/0"))
 
-    def asn_of_set(self):
-        return self.draw.of(self.maker.asns if self.draw.chance(0.9) else [64999])
-
     def community(self):
         if self.draw.chance(0.12):
             return self.draw.of(WELL_KNOWN)
@@ -49,7 +46,7 @@ class Text:
 
     def regular(self):
         text = self.draw.of(REGULAR)
-        values = str(self.asn_of_set()), str(self.asn_of_set()), str(self.draw.number(0, 9))
+        values = str(self.maker.asn_of_set()), str(self.maker.asn_of_set()), str(self.draw.number(0, 9))
         for at, value in enumerate(values):
             text = text.replace("{%d}" % at, value)
         return text
@@ -203,7 +200,7 @@ class Text:
             lambda: f"set as-path prepend {' '.join(str(self.prepended()) for _ in range(draw.number(1, 3)))}",
             lambda: "set as-path prepend 64999",
             lambda: f"set as-path prepend last-as {draw.number(1, 3)}",
-            lambda: f"set as-path exclude {self.asn_of_set()}" if draw.chance(0.3) else "set origin incomplete",
+            lambda: f"set as-path exclude {self.maker.asn_of_set()}" if draw.chance(0.3) else "set origin incomplete",
             lambda: f"set community {' '.join(self.community() for _ in range(draw.number(1, 2)))} additive",
             lambda: f"set community {' '.join(self.community() for _ in range(draw.number(1, 2)))} additive",
             lambda: f"set community {' '.join(self.community() for _ in range(draw.number(1, 3)))}",
@@ -214,7 +211,7 @@ class Text:
             lambda: f"set origin {draw.of(('igp', 'egp', 'incomplete'))}"))()
 
     def prepended(self):
-        return self.asn if self.draw.chance(0.7) else self.draw.of((64999, self.asn_of_set()))
+        return self.asn if self.draw.chance(0.7) else self.draw.of((64999, self.maker.asn_of_set()))
 
     def map_name(self):
         if self.draw.chance(0.01):
@@ -253,8 +250,7 @@ class Text:
     def gadget_lines(self, peer, key):
         """What a gadget wants: routes through one neighbor first, where it has the origin's own link beside."""
         gadget, place = self.maker.gadget, self.place
-        liked = {"disagree": {1: 2, 2: 1}, "bad": {1: 2, 2: 3, 3: 1}, "good": {1: 2, 2: 3}, "wedgie": {2: 1, 1: 2}}
-        if liked[gadget].get(place) == peer:
+        if LIKED[gadget].get(place) == peer:
             paths = f"^{self.maker.asns[peer]}_{self.maker.asns[0]}$" if gadget != "wedgie" else ".*"
             self.list_lines.append(f"bgp as-path access-list GADGET permit {paths}")
             self.map_lines.append(["route-map GADGET permit 10", " match as-path GADGET", " set local-preference 300",
@@ -308,14 +304,13 @@ class Text:
         lines += ["no bgp default ipv4-unicast"] * self.says_families
         if draw.chance(0.92) or self.maker.gadget:
             lines.append("no bgp ebgp-requires-policy")
-        for line, part in (("bgp always-compare-med", 0.15), ("bgp deterministic-med", 0.15),
-                           ("bgp bestpath med missing-as-worst", 0.15), ("bgp bestpath compare-routerid", 0.35),
-                           ("bgp bestpath as-path ignore", 0.08), ("no bgp network import-check", 0.3),
-                           (f"bgp default local-preference {draw.of((50, 150, 250))}", 0.12),
-                           ("bgp log-neighbor-changes", 0.2), ("bgp bestpath as-path multipath-relax", 0.1)):
-            if draw.chance(part) and not (self.maker.gadget and "as-path ignore" in line):
-                lines.append(line)
-        return lines
+        chosen = draw.each((
+            ("bgp always-compare-med", 0.15), ("bgp deterministic-med", 0.15),
+            ("bgp bestpath med missing-as-worst", 0.15), ("bgp bestpath compare-routerid", 0.35),
+            ("bgp bestpath as-path ignore", 0.08), ("no bgp network import-check", 0.3),
+            (f"bgp default local-preference {draw.of((50, 150, 250))}", 0.12),
+            ("bgp log-neighbor-changes", 0.2), ("bgp bestpath as-path multipath-relax", 0.1)))
+        return lines + [line for line in chosen if not (self.maker.gadget and "as-path ignore" in line)]
 
     def network_lines(self):
         draw, lines = self.draw, []

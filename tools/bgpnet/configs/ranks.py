@@ -117,7 +117,8 @@ def lasting(paths, origin, undecided=None):
             left[asn] = [path for path in left[asn]
                          if all(fixed.get(path[at], path[at:]) == path[at:] for at in range(1, len(path)))]
             if not left[asn] or fixed.get(left[asn][0][1]) == left[asn][0][1:] and not any(
-                    left[asn][0] in group and len(group.intersection(left[asn])) > 1 for group in undecided.get(asn, ())):
+                    left[asn][0] in group and len(group.intersection(left[asn])) > 1
+                    for group in undecided.get(asn, ())):
                 left[asn] = left[asn][:1]
                 fixed[asn], is_new = left[asn][0] if left[asn] else (), True
     return left
@@ -231,9 +232,8 @@ def network_lines(ranks, most=None):
         for asn, own in paths.items():
             if asn != origin:
                 if len(own) > MOST_PATHS:
-                    reasons.add(refusal(routers[asn].place, f"{label(asn)} permits {len(own)} paths for {prefix}, and a "
-                                                            f"rule has at most {MOST_PATHS}: --best {MOST_PATHS} leaves "
-                                                            "some out"))
+                    reasons.add(refusal(routers[asn].place, f"{label(asn)} permits {len(own)} paths for {prefix}, and "
+                                        f"a rule has at most {MOST_PATHS}: --best {MOST_PATHS} leaves some out"))
                     continue
                 wanted[asn][prefix] = own
     for asn, own in wanted.items():

@@ -5,7 +5,7 @@ from collections import namedtuple
 
 from bgpnet.configs.lists import mask_of
 
-# A route: its administrative distance, its metric, and how it came. FRR takes a next hop for reached that leads nowhere.
+# A route: its administrative distance, its metric, and how it came. To FRR a next hop is reached that leads nowhere.
 Entry = namedtuple("Entry", "distance metric kind place")
 # An interface on which an IGP runs: its router, the subnet, the cost, and whether the IGP has neighbors there.
 Run = namedtuple("Run", "router interface subnet cost is_active")

@@ -6,6 +6,7 @@ from bgpnet.configs.lists import block_fits, path_fits
 from bgpnet.configs.routes import MOST, ORIGINS, Denial, Route, denied_by
 
 OWN_WEIGHT = 32768
+POLICIES = ("distribute-list", "prefix-list", "filter-list", "route-map")
 
 
 @lru_cache(maxsize=65536)
@@ -63,8 +64,44 @@ def adjusted(value, sign, change):
     return max(value - change, 0) if sign == "-" else change
 
 
-def excluded(path, numbers):
-    return tuple(number for number in path if number not in numbers)
+def prepended(path, value):
+    """A path with numbers in front, or with so many times the one that stands in front."""
+    return (value if isinstance(value, tuple) else path[:1] * value) + path
+
+
+def joined(former, numbers, adds):
+    """Communities that are set, or added to the former ones."""
+    return sorted_set(former + numbers if adds else numbers)
+
+
+def sifted(former, found):
+    """Communities without those that a list permits, if there is such a list."""
+    return tuple(one for one in former if not found.permits_one(one)) if found else former
+
+
+# What a `set` line of each kind makes of a route: the fields that it changes.
+SETS = {
+    "local-preference": lambda router, route, value: {
+        "preference": adjusted(route.preference, *value), "has_preference": True},
+    "metric": lambda router, route, value: {
+        "med": adjusted(route.med if route.has_med else 0, *value), "has_med": True},
+    "weight": lambda router, route, value: {"weight": value},
+    "prepend": lambda router, route, value: {"path": prepended(route.path, value)},
+    "exclude": lambda router, route, value: {"path": tuple(one for one in route.path if one not in value)},
+    "origin": lambda router, route, value: {"origin": value},
+    "community": lambda router, route, value: {"communities": joined(route.communities, *value)},
+    "large-community": lambda router, route, value: {"large": joined(route.large, *value)},
+    "comm-list": lambda router, route, value: {
+        "communities": sifted(route.communities, router.lists["community"].get(value))},
+    "large-comm-list": lambda router, route, value: {
+        "large": sifted(route.large, router.lists["large-community"].get(value))},
+}
+# Those that change what was there, and those that do so where they add.
+CHANGING = ("prepend", "exclude", "comm-list", "large-comm-list")
+ADDING = ("community", "large-community")
+ATTRIBUTE_OF = {"local-preference": "local-pref", "metric": "med", "weight": "weight", "prepend": "path",
+                "exclude": "path", "origin": "origin", "community": "communities", "comm-list": "communities",
+                "large-community": "large", "large-comm-list": "large"}
 
 
 def apply_sets(router, entry, route):
@@ -73,66 +110,8 @@ def apply_sets(router, entry, route):
         if kind == "exclude":
             for number in {*value}.intersection(route.path):
                 route.note(("excluded", number), place, True)
-        SETS[kind](router, route, value)
+        vars(route).update(SETS[kind](router, route, value))
         route.note(ATTRIBUTE_OF[kind], f"{place} {entry}", kind in CHANGING or kind in ADDING and value[1])
-
-
-def set_preference(router, route, value):
-    route.preference, route.has_preference = adjusted(route.preference, *value), True
-
-
-def set_metric(router, route, value):
-    route.med, route.has_med = adjusted(route.med if route.has_med else 0, *value), True
-
-
-def set_weight(router, route, value):
-    route.weight = value
-
-
-def set_prepend(router, route, value):
-    """Numbers in front of the path, or so many times the one that stands in front."""
-    route.path = (value if isinstance(value, tuple) else route.path[:1] * value) + route.path
-
-
-def set_exclude(router, route, value):
-    route.path = excluded(route.path, value)
-
-
-def set_origin(router, route, value):
-    route.origin = value
-
-
-def set_communities(router, route, value):
-    numbers, adds = value
-    route.communities = sorted_set(route.communities + numbers if adds else numbers)
-
-
-def set_large(router, route, value):
-    numbers, adds = value
-    route.large = sorted_set(route.large + numbers if adds else numbers)
-
-
-def delete_communities(router, route, value):
-    found = router.lists["community"].get(value)
-    if found:
-        route.communities = tuple(one for one in route.communities if not found.permits_one(one))
-
-
-def delete_large(router, route, value):
-    found = router.lists["large-community"].get(value)
-    if found:
-        route.large = tuple(one for one in route.large if not found.permits_one(one))
-
-
-SETS = {"local-preference": set_preference, "metric": set_metric, "weight": set_weight, "prepend": set_prepend,
-        "exclude": set_exclude, "origin": set_origin, "community": set_communities, "large-community": set_large,
-        "comm-list": delete_communities, "large-comm-list": delete_large}
-# Those that change what was there, and those that do so where they add.
-CHANGING = ("prepend", "exclude", "comm-list", "large-comm-list")
-ADDING = ("community", "large-community")
-ATTRIBUTE_OF = {"local-preference": "local-pref", "metric": "med", "weight": "weight", "prepend": "path",
-                "exclude": "path", "origin": "origin", "community": "communities", "comm-list": "communities",
-                "large-community": "large", "large-comm-list": "large"}
 
 
 def fits(router, kind, value, place, prefix, route):
@@ -228,7 +207,7 @@ def mapped(router, neighbor, direction, prefix, route):
 
 def without_policy(router, neighbor, direction):
     """The denial of a session without a policy, where one is required, or None."""
-    if router.requires_policy and not neighbor.has_policy(direction):
+    if router.option("bgp ebgp-requires-policy") and not any(neighbor.policy(kind, direction) for kind in POLICIES):
         return Denial(neighbor.place, f"no policy {direction} (bgp ebgp-requires-policy)")
     return None
 

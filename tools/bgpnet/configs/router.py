@@ -3,7 +3,6 @@ from collections import namedtuple
 
 from bgpnet.configs import inside, order, route, steps
 from bgpnet.configs.communities import community_text, large_text
-from bgpnet.configs.interfaces import Interface
 from bgpnet.configs.routes import ORIGINS, Denial
 from bgpnet.configs.speaker import Speaker
 
@@ -12,7 +11,6 @@ Line = namedtuple("Line", "name place")
 # A network that a router originates, with the default of local preference that stood above its line.
 Network = namedtuple("Network", "prefix map_name place preference")
 
-POLICIES = ("distribute-list", "prefix-list", "filter-list", "route-map")
 SENT = {"both": ("standard", "extended"), "all": ("standard", "extended", "large")}
 
 
@@ -41,9 +39,6 @@ class Neighbor:
         found = self.policies.get((kind, direction))
         return found if found is not None or self.group is None else self.group.policies.get((kind, direction))
 
-    def has_policy(self, direction):
-        return any(self.policy(kind, direction) for kind in POLICIES)
-
     def weight_line(self):
         line = self.line("weight")
         return line if line and line.name else None
@@ -57,8 +52,8 @@ class Neighbor:
 
 
 class Router(Speaker):
-    """What a file in the language of FRR says. `loopbacks` are the addresses of `lo`; `suppresses` is what a line says of
-    duplicates, and `keeps_routes` whether it keeps the routes of a peer that restarts."""
+    """What a file in the language of FRR says. `loopbacks` are the addresses of `lo`; `suppresses` is what a line says
+    of duplicates, and `keeps_routes` whether it keeps the routes of a peer that restarts."""
 
     language = "FRR"
 
@@ -70,10 +65,6 @@ class Router(Speaker):
         self.maps, self.loopbacks = {}, set()
         self.default_preference, self.default_line, self.activates = 100, None, True
         self.options, self.suppresses, self.keeps_routes, self.cluster_line = {}, None, False, None
-
-    def interface(self, name, place):
-        """The interface of a name."""
-        return self.interfaces.setdefault(name, Interface(name, place))
 
     def all_neighbors(self):
         """Its groups of neighbors, and its neighbors."""
@@ -91,10 +82,6 @@ class Router(Speaker):
     def option(self, name):
         line = self.options.get(name)
         return bool(line and line.name)
-
-    @property
-    def requires_policy(self):
-        return self.option("bgp ebgp-requires-policy")
 
     # ---- what a set asks
 

@@ -1,4 +1,4 @@
-"""What is said of the routes of a set of which an AS has several routers: AS paths, next hops, and which step decided."""
+"""What is said of routes where an AS of the set has several routers: AS paths, next hops, and which step decided."""
 from bgpnet.configs import steps
 from bgpnet.configs.inside import CLIENT, EXTERNAL
 from bgpnet.configs.sessions import dotted
@@ -55,8 +55,8 @@ def ending(router, route):
 
 
 def reported(routers, text, name):
-    """The paths that tables of FRR have (`show bgp ipv4 unicast json` of every router that a path passes), by router and
-    prefix: from each router to the neighbor of its best route."""
+    """The paths that tables of FRR have (`show bgp ipv4 unicast json` of every router that a path passes), by router
+    and prefix: from each router to the neighbor of its best route."""
     ids = {dotted(router.router_id.name): number for number, router in routers.routers.items()}
     hops = {}
     for said in objects_of(text, name):

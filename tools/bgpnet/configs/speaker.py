@@ -10,11 +10,11 @@ class Speaker:
     neighbors by address, `networks` what it announces by prefix, `addresses` those of its interfaces. `notes` are its
     warnings, each with its place; `foreign` has the numbers of lines that other daemons take, and `end` that of its
     last line. Where its AS has other routers, or another AS of its set has several, the set says `given`, its number
-    there, and to one of FRR `reach`, the next hops that it reaches (configs/igp.py), by `interfaces` and what `igp` says.
-    `language` names the software that reads it, `is_origins` says that it is none but stands behind several routers
-    that announce the same prefixes, `included` are the paths of files that the file includes,
-    `keeps_routes` is whether it keeps the routes of a peer that restarts, `is_whole` whether all lines of its file are
-    taken, and `is_sound` whether nothing of it is refused, so that what it makes of routes is known."""
+    there, and to one of FRR `reach`, the next hops that it reaches (configs/igp.py), by `interfaces` and what `igp`
+    says. `language` names the software that reads it, `is_origins` says that it is none but stands behind several
+    routers that announce the same prefixes, `included` are the paths of files that the file includes, `keeps_routes` is
+    whether it keeps the routes of a peer that restarts, `is_whole` whether all lines of its file are taken, and
+    `is_sound` whether nothing of it is refused, so that what it makes of routes is known."""
 
     language, included, keeps_routes, is_whole, is_sound, is_origins = None, frozenset(), False, True, True, False
 

@@ -1,4 +1,4 @@
-"""The order of a router's ways where an AS of the set has several routers: the decision process of FRR, step by step."""
+"""The order of a router's ways where an AS has several routers: the decision process of FRR, step by step."""
 from functools import partial
 from itertools import permutations
 

@@ -77,14 +77,10 @@ def columns(rows):
             for row in rows]
 
 
-def router_named(routers, word):
-    """The number of a router that a word names, by its number or by its host's name; None of nobody."""
-    return next((asn for asn, name in routers.called.items() if name == word), number_of(word))
-
-
 def explain(ranks, word, prefix, names):
-    """The lines that say of a router and a prefix which paths it permits, by which lines, and which it does not."""
-    asn = router_named(ranks.set, word)
+    """The lines that say of a router, by its number or its host's name, and a prefix which paths it permits, by which
+    lines, and which it does not."""
+    asn = next((asn for asn, name in ranks.set.called.items() if name == word), number_of(word))
     if asn not in ranks.set.routers:
         raise Refusal(f"there is no router {word}")
     order, router = ranks.orders[prefix][asn], ranks.set.routers[asn]
@@ -357,5 +353,5 @@ class Change:
             if before.get(key) != after.get(key):
                 asn, prefix = key
                 alike.setdefault((asn, after.get(key, ()), before.get(key, ())), []).append(prefix)
-        return found + [f"end {self.both.router_text(asn)} {', '.join(map(str, prefixes))} {self.both.path_text(new)}, was "
-                        f"{self.both.path_text(old)}" for (asn, new, old), prefixes in alike.items()]
+        return found + [f"end {self.both.router_text(asn)} {', '.join(map(str, prefixes))} {self.both.path_text(new)}, "
+                        f"was {self.both.path_text(old)}" for (asn, new, old), prefixes in alike.items()]

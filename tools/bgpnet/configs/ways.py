@@ -20,8 +20,8 @@ def crossed(routers, prefix, way, peer):
 
 
 class Follower:
-    """Follows the ways of the prefixes of a set; those that go alike are followed once. `reasons` is where it is kept why
-    ways are refused.
+    """Follows the ways of the prefixes of a set; those that go alike are followed once. `reasons` is where it is kept
+    why ways are refused.
 
     `with_notes` asks for the line of each attribute, and for `denials`: of each prefix the denial of each way that ends
     in one."""
@@ -64,8 +64,8 @@ class Follower:
             raise Passed
         if self.steps > MOST_STEPS:
             raise refusal(self.set.routers[way.path[0]].place,
-                          f"more than {MOST_STEPS} steps of ways were followed, and there are more: --prefix takes some "
-                          "prefixes, and filters make ways fewer")
+                          f"more than {MOST_STEPS} steps of ways were followed, and there are more: --prefix takes "
+                          "some prefixes, and filters make ways fewer")
         return self.reasons.attempt(self.way_on, prefix, way, peer, own)
 
     def way_on(self, prefix, way, peer, own):
@@ -88,8 +88,8 @@ class Follower:
         """Refuses a way that comes back to a router; at the origin it is nothing as long as the own route is better."""
         if path[0] != path[-1]:
             raise refusal(self.exclusion(prefix, path), f"{prefix}: {self.set.path_label(path)} is permitted, and "
-                          f"passes {self.set.label(path[0])} twice: its AS is excluded from the path, so that the way is not seen to be a "
-                          "loop")
+                          f"passes {self.set.label(path[0])} twice: its AS is excluded from the path, so that the way "
+                          "is not seen to be a loop")
         if not listener.router.prefers_own(own, route):
             raise refusal(listener.neighbor.place, f"{prefix}: the origin {self.set.label(path[0])} likes "
                                                    f"{self.set.path_label(path)} better than its own "

@@ -7,7 +7,7 @@ from itertools import combinations
 from bgpnet.configs.bird.evaluate import UNREACHABLE
 from bgpnet.configs.communities import STALE
 from bgpnet.configs.lists import mask_of
-from bgpnet.configs.pairs import groups_of, in_order, refuse_circle, shortest_circle
+from bgpnet.configs.pairs import all_in_order, groups_of
 
 MISSING_ORIGIN = 2
 # The distance to a next hop that an own route covers, which says none; to one that is not reached it is 0.
@@ -55,28 +55,21 @@ class Order:
     def distance(self, route):
         if not route.near.option("igp metric", True):
             return 0
-        return self.far_distance(route) if not route.near.is_direct else route.near.of_channel("cost", 0)
-
-    def far_distance(self, route):
+        if route.near.is_direct:
+            return route.near.of_channel("cost", 0)
         return UNKNOWN if self.is_covered(route.near) else 0
 
     def first(self, route):
         return route.path[0] if route.path else self.router.asn
 
-    def compares_lengths(self, one, other):
-        return one.near.option("path metric", True) or other.near.option("path metric", True)
-
-    def compares_metrics(self, one, other):
-        return self.first(one) == self.first(other) or one.near.option("med metric") or other.near.option("med metric")
-
     def is_better(self, one, other):
         """Whether a way stands above another of the same front key, of another peer."""
         a, b = one.route, other.route
         pairs = []
-        if self.compares_lengths(a, b):
+        if a.near.option("path metric", True) or b.near.option("path metric", True):
             pairs.append((len(a.path), len(b.path)))
         pairs.append(tuple(MISSING_ORIGIN if route.origin is None else route.origin for route in (a, b)))
-        if self.compares_metrics(a, b):
+        if self.first(a) == self.first(b) or a.near.option("med metric") or b.near.option("med metric"):
             pairs.append((self.metric(a), self.metric(b)))
         pairs += [(self.distance(a), self.distance(b)), (self.id_of(one), self.id_of(other))]
         return next((left < right for left, right in pairs if left != right), False)
@@ -119,9 +112,4 @@ class Order:
             if one[0] != other[0]:
                 better = self.is_better(kinds[one][0], kinds[other][0])
                 above[other if better else one].add(one if better else other)
-        found, left = in_order(kinds, above)
-        if left:
-            paths = [kinds[kind][0].path for kind in shortest_circle(left, above)]
-            place = self.set.ends[self.router.number][paths[0][1]].neighbor.place
-            refuse_circle(place, f"{self.router.asn} {self.prefix}", paths, WHY)
-        return [way for kind in found for way in kinds[kind]]
+        return [way for kind in all_in_order(self, kinds, above, WHY) for way in kinds[kind]]

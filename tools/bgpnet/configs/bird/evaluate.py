@@ -27,8 +27,9 @@ class Ended(Exception):
 class State:
     """A run of a filter: the route that it changes, the prefix, and the values of the routine that runs."""
 
-    def __init__(self, route, prefix):
-        self.route, self.prefix, self.values, self.routine = route, prefix, [], None
+    def __init__(self, route, prefix, routine=None):
+        self.route, self.prefix, self.routine = route, prefix, routine
+        self.values = [None] * routine.size if routine else []
 
     def call(self, routine, args):
         """The value that a function returns, None where it has none."""
@@ -51,10 +52,8 @@ def code_of(routine):
 
 def apply(routine, route, prefix):
     """Changes a route by a filter; the denial, where it ends in one."""
-    state = State(route, prefix)
-    state.values, state.routine = [None] * routine.size, routine
     try:
-        end = code_of(routine)(state)
+        end = code_of(routine)(State(route, prefix, routine))
     except Ended as ended:
         end = ended.end
     except RecursionError:
@@ -74,10 +73,8 @@ def apply(routine, route, prefix):
 def amend(routine, route, prefix):
     """Changes a route by the statements in the braces of a static route: nothing denies it, and what came before an
     error stays."""
-    state = State(route, prefix)
-    state.values, state.routine = [None] * routine.size, routine
     try:
-        code_of(routine)(state)
+        code_of(routine)(State(route, prefix, routine))
     except (Ended, Failure):
         return
 
@@ -147,8 +144,8 @@ def loop(node):
     return placed(node, run)
 
 
-def ending(node):
-    terms, end = [function_of(one) for one in node.args[0]], (node.op, None, node.place)
+def printed(node, end=None):
+    terms = [function_of(one) for one in node.args[0]]
 
     def run(state):
         for term in terms:
@@ -157,13 +154,8 @@ def ending(node):
     return placed(node, run)
 
 
-def printed(node):
-    terms = [function_of(one) for one in node.args[0]]
-
-    def run(state):
-        for term in terms:
-            term(state)
-    return placed(node, run)
+def ending(node):
+    return printed(node, (node.op, None, node.place))
 
 
 def returned(node):
@@ -179,13 +171,17 @@ def called(node):
     return placed(node, run)
 
 
-def declared(node):
-    slot, type, term = node.args
+def set_variable(node, op="VAR_SET"):
+    slot, type, term, *_ = node.args
     term = function_of(term) if term else lambda state: None
 
     def run(state):
-        state.values[slot] = of_type(term(state), "VAR_INIT", type)
+        state.values[slot] = of_type(term(state), op, type)
     return placed(node, run)
+
+
+def declared(node):
+    return set_variable(node, "VAR_INIT")
 
 
 def of_type(value, op, type):
@@ -195,15 +191,6 @@ def of_type(value, op, type):
     if not has_type(value, type):
         raise Failure(wrong_type(op, 1, type, type_of(value)))
     return value
-
-
-def set_variable(node):
-    slot, type, term, _ = node.args
-    term = function_of(term)
-
-    def run(state):
-        state.values[slot] = of_type(term(state), "VAR_SET", type)
-    return placed(node, run)
 
 
 def set_attribute(node):
@@ -247,8 +234,8 @@ def unset(node):
 
 
 STATEMENTS = {"block": block, "if": conditional, "case": switch, "for": loop, "accept": ending, "reject": ending,
-              "print": printed, "return": returned, "do": called, "declare": declared, "set variable": set_variable,
-              "set attribute": set_attribute, "unset": unset}
+              "print": printed, "printn": printed, "return": returned, "do": called, "declare": declared,
+              "set variable": set_variable, "set attribute": set_attribute, "unset": unset}
 
 
 # ---- what filters ask

@@ -13,7 +13,7 @@
 Sets and masks: configs.bird.literals.
 """
 from bgpnet.configs.bird import attributes
-from bgpnet.configs.bird.literals import KINDS, Literals
+from bgpnet.configs.bird.literals import Literals
 from bgpnet.configs.bird.nodes import Node
 from bgpnet.configs.bird.operations import BINARY, CHANGES, METHODS, TURNED
 from bgpnet.configs.bird.values import EMPTY, NAMED
@@ -184,13 +184,7 @@ class Terms(Literals):
 
     def bracketed(self):
         """A term in brackets, a pair, a large community, or an extended one."""
-        place = self.expect("(").place
-        if self.is_next(*KINDS):
-            self.refuse(f"'({self.token.value}, ..)': {attributes.REFUSED['bgp_ext_community']}")
-        parts = [self.term()]
-        while len(parts) < 3 and self.take(","):
-            parts.append(self.term())
-        self.expect(")")
+        place, parts = self.parts_in_brackets(self.term)
         if len(parts) == 1:
             return parts[0]
         return self.operation("PAIR_CONSTRUCT" if len(parts) == 2 else "LC_CONSTRUCT", parts, place)

@@ -54,7 +54,7 @@ class Held(Route):
     def write(self, name, value):
         """Sets an attribute; None leaves it undefined."""
         if name in WRITE:
-            WRITE[name](self, value)
+            vars(self).update(WRITE[name](value))
             is_empty = value == ()
             is_none = is_empty and value is NONE[type(value)]
             self.emptied = self.emptied.difference((name,)).union((name,) * (is_empty and not is_none))
@@ -66,30 +66,6 @@ class Held(Route):
         """What becomes of the route as it comes into the table: lists that were emptied are defined, and no MED was
         just set."""
         self.is_marked, self.emptied = False, self.emptied | self.cleared
-
-    def write_med(self, value):
-        self.med, self.has_med, self.is_marked = value or 0, value is not None, value is not None
-
-    def write_preference(self, value):
-        self.preference, self.has_preference = value or 0, value is not None
-
-    def write_path(self, value):
-        self.path = tuple(value or ())
-
-    def write_origin(self, value):
-        self.origin = None if value is None else value.number
-
-    def write_communities(self, value):
-        self.communities = tuple(map(int, value or ()))
-
-    def write_large(self, value):
-        self.large = tuple(map(tuple, value or ()))
-
-    def write_standing(self, value):
-        self.standing = value
-
-    def write_customer(self, value):
-        self.customer = value
 
 
 def address_of(route):
@@ -116,6 +92,14 @@ READ = {
     "dest": lambda route: Enum("dest", route.kind if route.near is None else 1 if route.near.is_direct else 3),
     "scope": lambda route: Enum("scope", 4),
 }
-WRITE = {"bgp_path": Held.write_path, "bgp_origin": Held.write_origin, "bgp_local_pref": Held.write_preference,
-         "bgp_med": Held.write_med, "bgp_otc": Held.write_customer, "bgp_community": Held.write_communities,
-         "bgp_large_community": Held.write_large, "preference": Held.write_standing}
+# The fields that change where an attribute is set.
+WRITE = {
+    "bgp_path": lambda value: {"path": tuple(value or ())},
+    "bgp_origin": lambda value: {"origin": None if value is None else value.number},
+    "bgp_local_pref": lambda value: {"preference": value or 0, "has_preference": value is not None},
+    "bgp_med": lambda value: {"med": value or 0, "has_med": value is not None, "is_marked": value is not None},
+    "bgp_otc": lambda value: {"customer": value},
+    "bgp_community": lambda value: {"communities": tuple(map(int, value or ()))},
+    "bgp_large_community": lambda value: {"large": tuple(map(tuple, value or ()))},
+    "preference": lambda value: {"standing": value},
+}

@@ -53,13 +53,18 @@ class Literals(Stream):
 
     def prefix_of(self, address):
         """The prefix of an address that was taken, whose length stands next."""
+        length, place = self.length(32)
+        if address & ~mask_of(length):
+            self.refuse(f"an address with bits behind its length, /{length}: BIRD does not take it", place)
+        return Prefix(int(address), length)
+
+    def length(self, most):
+        """The length of a prefix, and where it stands."""
         self.expect("/")
         token = self.of_kind("number", "a length")
-        if token.value > 32:
+        if token.value > most:
             self.refuse(f"a length of {token.value}", token.place)
-        if address & ~mask_of(token.value):
-            self.refuse(f"an address with bits behind its length, /{token.value}: BIRD does not take it", token.place)
-        return Prefix(int(address), token.value)
+        return token.value, token.place
 
     def prefix(self):
         found = self.address_or_prefix()
@@ -69,11 +74,7 @@ class Literals(Stream):
 
     def prefix6(self):
         address = self.of_kind("address6", "an address of IPv6").value
-        self.expect("/")
-        token = self.of_kind("number", "a length")
-        if token.value > 128:
-            self.refuse(f"a length of {token.value}", token.place)
-        return Prefix6(f"{address}/{token.value}")
+        return Prefix6(f"{address}/{self.length(128)[0]}")
 
     # ---- sets
 
@@ -162,13 +163,7 @@ class Literals(Stream):
 
     def bracketed_item(self):
         """A term in brackets, a pair or a large community with ranges and `*`, or a range of these."""
-        place = self.expect("(").place
-        if self.is_next(*KINDS):
-            self.refuse(f"'({self.token.value}, ..)': {attributes.REFUSED['bgp_ext_community']}")
-        parts = [self.part()]
-        while len(parts) < 3 and self.take(","):
-            parts.append(self.part())
-        self.expect(")")
+        place, parts = self.parts_in_brackets(self.part)
         if len(parts) == 1:
             node = parts[0][0]
             if not isinstance(node, Node) or parts[0][1] is not node or node.type not in OF_SETS:
@@ -178,6 +173,17 @@ class Literals(Stream):
             return self.range_of_lists(parts, place)
         bounds = [self.bounds(part, MOST_HALF if len(parts) == 2 else MOST) for part in parts]
         return self.pairs(bounds) if len(parts) == 2 else self.triples(bounds, place)
+
+    def parts_in_brackets(self, read):
+        """Where brackets begin, and what stands in them: one part, two or three."""
+        place = self.expect("(").place
+        if self.is_next(*KINDS):
+            self.refuse(f"'({self.token.value}, ..)': {attributes.REFUSED['bgp_ext_community']}")
+        parts = [read()]
+        while len(parts) < 3 and self.take(","):
+            parts.append(read())
+        self.expect(")")
+        return place, parts
 
     def part(self):
         """Nodes of the ends of a part of a pair, or `*`."""

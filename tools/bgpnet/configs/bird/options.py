@@ -46,12 +46,12 @@ ignored    graceful restart wait NUM
 
 # What every protocol takes.
 PROTOCOL = """
-disabled   disabled BOOL
+value      disabled BOOL
 ignored    description TEXT
 ignored    debug REST
 ignored    mrtdump REST
 ignored    tx <class|dscp|priority> NUM
-own_id     router id ADDRESS
+value      router id ADDRESS
 vrf        vrf REST
 """
 
@@ -77,8 +77,8 @@ if_on      rr client BOOL
 reflector  rr cluster id REST
 own        allow local as [NUM]
 confederation confederation REST
-password   password TEXT
-ttl        ttl security BOOL
+value      password TEXT
+value      ttl security BOOL
 source     source address ADDRESS
 warned     bfd REST
 interface  interface REST
@@ -97,8 +97,7 @@ policy     <import|export> REST
 
 BGP_CHANNEL = CHANNEL + """
 ignored    <mandatory|import table|export table|validate|extended next hop> BOOL
-ignored    graceful restart BOOL
-ignored    long lived graceful restart BOOL
+ignored    <graceful restart|long lived graceful restart> BOOL
 ignored    long lived stale time NUM
 ignored    next hop self ibgp
 value      next hop self <ebgp|BOOL>

@@ -124,7 +124,7 @@ class Protocols(Statements):
         if rest[:1] == ["BOOL"] or not rest:
             return self.switch_value()
         return {"NUM": self.number, "TEXT": lambda: self.of_kind("text", "a text").value,
-                "ADDRESS": self.address}[rest[0]]()
+                "ADDRESS": lambda: int(self.address())}[rest[0]]()
 
     def skip_value(self, rest):
         if rest[:1] == ["BOOL"]:
@@ -153,44 +153,29 @@ class Protocols(Statements):
             return word in options.ON
         return bool(self.number())
 
+    def constant_of(self, type, what):
+        """The value of a name, or of a term in brackets, that is a constant of a type."""
+        place = self.place
+        found = self.in_brackets() if self.is_next("(") else self.named(self.token)
+        if not found.is_constant or found.type != type:
+            self.refuse(f"no constant {what}", place)
+        return found.args[0]
+
     def number(self):
         """A number, the name of one, or a term in brackets."""
-        place = self.place
-        if self.is_next("("):
-            found = self.in_brackets()
-        elif self.token.kind == "name":
-            found = self.named(self.token)
-        else:
-            return self.of_kind("number", "a number").value
-        if not found.is_constant or found.type != "int":
-            self.refuse("no constant number", place)
-        return found.args[0]
+        if self.is_next("(") or self.token.kind == "name":
+            return self.constant_of("int", "number")
+        return self.of_kind("number", "a number").value
 
     def address(self):
-        place = self.place
-        found = self.named(self.token) if self.token.kind == "name" else None
-        if found is None:
-            return self.of_kind("address", "an address").value
-        if not found.is_constant or found.type != "ip":
-            self.refuse("no constant address", place)
-        return found.args[0]
+        if self.token.kind == "name":
+            return self.constant_of("ip", "address")
+        return self.of_kind("address", "an address").value
 
     def constant_prefix(self):
-        place = self.place
-        if self.token.kind != "name":
-            return self.prefix()
-        found = self.named(self.token)
-        if not found.is_constant or found.type != "prefix":
-            self.refuse("no constant prefix", place)
-        return found.args[0]
+        return self.constant_of("prefix", "prefix") if self.token.kind == "name" else self.prefix()
 
     # ---- rows that are more than a value
-
-    def do_disabled(self, owner, words, rest, place):
-        owner.said["disabled"] = Line(self.switch_value(), place)
-
-    def do_own_id(self, owner, words, rest, place):
-        owner.said["router id"] = Line(int(self.address()), place)
 
     def do_as4(self, owner, words, rest, place):
         if not self.switch_value():
@@ -211,12 +196,6 @@ class Protocols(Statements):
 
     def do_multihop(self, owner, words, rest, place):
         owner.said["multihop"] = Line(64 if self.is_next(";") else self.number(), place)
-
-    def do_password(self, owner, words, rest, place):
-        owner.said["password"] = Line(self.of_kind("text", "a password").value, place)
-
-    def do_ttl(self, owner, words, rest, place):
-        owner.said["ttl security"] = Line(self.switch_value(), place)
 
     def do_source(self, owner, words, rest, place):
         owner.said["source"] = Line(int(self.address()), place)
@@ -310,15 +289,11 @@ class Protocols(Statements):
                 protocol.said["ipv6"] = Line(self.token.value, place)
                 protocol.said["neighbor"] = Line(None, place)
                 self.next()
-                self.of_interface()
+                if self.take("%"):
+                    self.next()  # the interface
             else:
                 protocol.said["neighbor"] = Line(int(self.address()), place)
         self.numbers(protocol, "neighbor as")
-
-    def of_interface(self):
-        """The interface behind an address of IPv6."""
-        if self.take("%"):
-            self.next()
 
     def numbers(self, protocol, kind):
         """What stands behind the address of one's own, or of a neighbor."""

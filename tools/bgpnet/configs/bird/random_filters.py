@@ -32,9 +32,6 @@ class Filters:
 
     # ---- literals
 
-    def asn_of_set(self):
-        return self.draw.of(self.maker.asns if self.draw.chance(0.9) else [64999])
-
     def pair(self):
         if self.draw.chance(0.1):
             return self.draw.of(WELL_KNOWN)
@@ -72,7 +69,7 @@ class Filters:
 
     def numbers(self, asns):
         draw = self.draw
-        one = self.asn_of_set if asns else lambda: draw.number(0, 40)
+        one = self.maker.asn_of_set if asns else lambda: draw.number(0, 40)
         items = []
         for _ in range(draw.number(1, 3)):
             low = one()
@@ -83,8 +80,8 @@ class Filters:
         draw = self.draw
         parts = draw.of(("{0}", "{0} *", "* {0}", "* {0} *", "*", "", "? *", "* ? ?", "{0} {1}", "{0}+ *", "* {1} {0}",
                          "* [{0}, {1}] *", "{2} *", "* {2}", "? ?", "{0} * {1}"))
-        low = self.asn_of_set()
-        values = str(self.asn_of_set()), str(self.asn_of_set()), f"{low}..{low + draw.number(1, 4)}"
+        low = self.maker.asn_of_set()
+        values = str(self.maker.asn_of_set()), str(self.maker.asn_of_set()), f"{low}..{low + draw.number(1, 4)}"
         for at, value in enumerate(values):
             parts = parts.replace("{%d}" % at, value)
         return self.constant("mask", f"[= {parts} =]", 0.15)
@@ -120,7 +117,7 @@ class Filters:
             lambda: f"net.len {draw.of(('=', '>', '<', '>=', '<='))} {draw.of((12, 16, 17, 24))}",
             lambda: f"bgp_path ~ {self.mask()}", lambda: f"bgp_path ~ {self.mask()}",
             lambda: f"bgp_path !~ {self.mask()}", lambda: f"bgp_path ~ {self.numbers(True)}",
-            lambda: f"{self.asn_of_set()} ~ bgp_path", lambda: f"bgp_community ~ {self.pairs()}",
+            lambda: f"{self.maker.asn_of_set()} ~ bgp_path", lambda: f"bgp_community ~ {self.pairs()}",
             lambda: f"bgp_community !~ {self.pairs()}", lambda: f"{self.pair()} ~ bgp_community",
             lambda: f"bgp_large_community ~ {self.larges()}", lambda: f"{self.large()} ~ bgp_large_community",
             lambda: f"{self.number()} {draw.of(('=', '!=', '<', '>', '<=', '>='))} {self.number()}",
@@ -129,7 +126,7 @@ class Filters:
             lambda: f"bgp_origin = {draw.of(('ORIGIN_IGP', 'ORIGIN_EGP', 'ORIGIN_INCOMPLETE'))}",
             lambda: f"source = {draw.of(('RTS_STATIC', 'RTS_BGP'))}", lambda: f"proto ~ \"{draw.of('rtbs')}*\"",
             lambda: f"{self.number(0)} ~ {self.numbers(False)}", lambda: f"{self.called()}" if self.tells() else "true",
-            lambda: f"bgp_path.first = {self.asn_of_set()}",
+            lambda: f"bgp_path.first = {self.maker.asn_of_set()}",
             lambda: f"filter(bgp_community, {self.pairs()}).len > {draw.number(0, 1)}"))()
 
     def tells(self):
@@ -166,11 +163,11 @@ class Filters:
             lambda: f"{self.own[0]} = {self.number()};" if self.own else f"bgp_local_pref = {draw.number(90, 110)};",
             lambda: f"preference = {draw.of((90, 105, 110))};" if draw.chance(0.3) and direction == "import"
             else f"bgp_med = {draw.number(0, 9)};",
-            lambda: f"bgp_path.delete({self.asn_of_set()});" if draw.chance(0.08) else
+            lambda: f"bgp_path.delete({self.maker.asn_of_set()});" if draw.chance(0.08) else
             "bgp_path.delete([64990..64999]);"))()
 
     def prepended(self):
-        return self.asn if self.draw.chance(0.7) else self.draw.of((64999, 64998, self.asn_of_set()))
+        return self.asn if self.draw.chance(0.7) else self.draw.of((64999, 64998, self.maker.asn_of_set()))
 
     def statement(self, direction, deep):
         """A statement, that ends the filter sometimes."""
@@ -218,7 +215,7 @@ class Filters:
     def loop(self, direction, deep):
         draw = self.draw
         if draw.chance(0.5):
-            return f"for int one in bgp_path do {{ if one {draw.of(('=', '>', '<'))} {self.asn_of_set()} then " \
+            return f"for int one in bgp_path do {{ if one {draw.of(('=', '>', '<'))} {self.maker.asn_of_set()} then " \
                    f"{self.settings(direction)} }}"
         return f"for pair one in bgp_community do if one ~ {self.pairs()} then {self.settings(direction)}"
 

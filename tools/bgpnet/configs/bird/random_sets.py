@@ -2,9 +2,8 @@
 read, and gadgets whose ends are several or none."""
 from bgpnet.configs import random_networks, random_sets
 from bgpnet.configs.bird.random_filters import Filters
+from bgpnet.configs.random_networks import LIKED
 from bgpnet.network import lines_text
-
-LIKED = {"disagree": {1: 2, 2: 1}, "bad": {1: 2, 2: 3, 3: 1}, "good": {1: 2, 2: 3}, "wedgie": {2: 1, 1: 2}}
 
 
 class Maker(random_networks.Maker):
@@ -58,28 +57,25 @@ class Text:
         return f"import filter {{ if bgp_path ~ {mask} then bgp_local_pref = 300; accept; }};"
 
     def channel_lines(self):
-        draw, lines = self.draw, []
-        for line, part in ((f"preference {draw.of((90, 110, 120))};", 0.05), (f"cost {draw.number(1, 30)};", 0.1),
-                           ("import keep filtered;", 0.05), ("next hop self;", 0.08), ("import limit 1000;", 0.04),
-                           ("add paths off;", 0.02), ("mandatory;", 0.03)):
-            if draw.chance(part) and not self.maker.gadget:
-                lines.append(line)
-        return lines
+        draw = self.draw
+        chosen = draw.each((
+            (f"preference {draw.of((90, 110, 120))};", 0.05), (f"cost {draw.number(1, 30)};", 0.1),
+            ("import keep filtered;", 0.05), ("next hop self;", 0.08), ("import limit 1000;", 0.04),
+            ("add paths off;", 0.02), ("mandatory;", 0.03)))
+        return [] if self.maker.gadget else chosen
 
     # ---- protocols
 
     def option_lines(self):
         draw = self.draw
-        lines = []
-        for line, part in (("med metric;", 0.12), ("med metric off;", 0.04), ("path metric off;", 0.05),
-                           ("deterministic med on;", 0.1), (f"default bgp_med {draw.number(0, 30)};", 0.12),
-                           (f"default bgp_local_pref {draw.of((50, 150, 250))};", 0.12), ("igp metric off;", 0.05),
-                           ("interpret communities off;", 0.08), ("allow bgp_local_pref on;", 0.12),
-                           ("enforce first as on;", 0.08), ("hold time 90;", 0.1), ("graceful restart on;", 0.05),
-                           ("enable extended messages on;", 0.05), ("prefer older off;", 0.03)):
-            if draw.chance(part) and not (self.maker.gadget and "path metric" in line):
-                lines.append(line)
-        return lines
+        chosen = draw.each((
+            ("med metric;", 0.12), ("med metric off;", 0.04), ("path metric off;", 0.05),
+            ("deterministic med on;", 0.1), (f"default bgp_med {draw.number(0, 30)};", 0.12),
+            (f"default bgp_local_pref {draw.of((50, 150, 250))};", 0.12), ("igp metric off;", 0.05),
+            ("interpret communities off;", 0.08), ("allow bgp_local_pref on;", 0.12), ("enforce first as on;", 0.08),
+            ("hold time 90;", 0.1), ("graceful restart on;", 0.05), ("enable extended messages on;", 0.05),
+            ("prefer older off;", 0.03)))
+        return [line for line in chosen if not (self.maker.gadget and "path metric" in line)]
 
     def role_line(self, peer):
         """Roles that fit: the router with the lesser place is the provider of the other, or all are peers."""

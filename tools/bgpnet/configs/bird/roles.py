@@ -8,13 +8,9 @@ OTHERS = {"provider": "customer", "customer": "provider", "rs_server": "rs_clien
 ABOVE = ("provider", "peer", "rs_server")
 
 
-def role_of(end):
-    return getattr(end.neighbor, "role", None)
-
-
 def mismatch(neighbor, far):
     """Why roles let no session come up, or None."""
-    own, other = neighbor.role, role_of(far)
+    own, other = neighbor.role, getattr(far.neighbor, "role", None)
     if own and other and OTHERS[own] != other:
         return f"the roles {own} and {other} don't fit"
     if neighbor.option("require roles") and not other:

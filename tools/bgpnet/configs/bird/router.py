@@ -8,6 +8,7 @@ from bgpnet.configs.communities import LOCAL_AS, NO_ADVERTISE, NO_EXPORT, STALE,
 from bgpnet.configs.places import refusal
 from bgpnet.configs.router import Line, Neighbor
 from bgpnet.configs.routes import ORIGINS, Denial, Route, denied_by
+from bgpnet.configs.sessions import dotted
 from bgpnet.configs.speaker import Speaker
 
 # A prefix that a router announces: the protocol, what kind of route it is, and the statements in its braces.
@@ -23,14 +24,13 @@ class Peer(Neighbor):
     def __init__(self, protocol, asn):
         address = protocol.value("neighbor")
         self.channel = protocol.channels.get("ipv4")
-        super().__init__(dotted(address), address, protocol.place, self.channel is not None)
+        key = "none" if address is None else dotted(address)
+        super().__init__(key, address, protocol.place, self.channel is not None)
         self.protocol, self.name, self.asn_line = protocol, protocol.name, asn
         self.is_direct = not protocol.value("multihop", 0)
-        for words, kind in (("source", "source"), ("password", "password"), ("router id", "router id")):
-            if words in protocol.said:
-                self.said[kind] = protocol.said[words]
-        if protocol.value("passive"):
-            self.said["passive"] = protocol.said["passive"]
+        for words in ("source", "password", "router id", "passive"):
+            if words in protocol.said and protocol.value(words) is not False:
+                self.said[words] = protocol.said[words]
         hops = 1 if self.is_direct else protocol.value("multihop")
         self.said["ebgp-multihop"] = Line(hops, self.place)
         if protocol.value("ttl security"):
@@ -386,7 +386,3 @@ def is_bogus(prefix):
     """Whether a prefix is none of hosts that others reach."""
     first = prefix.address >> 24
     return bool(prefix.length) and not first or first == 127 or first >= 224
-
-
-def dotted(address):
-    return "none" if address is None else ".".join(str(address >> shift & 255) for shift in (24, 16, 8, 0))

@@ -1,8 +1,9 @@
 """Works out terms: each node becomes a function of the state of a run."""
 from bgpnet.configs.bird.operations import SIGNATURES, has_type, wrong_type
 from bgpnet.configs.bird.sets import ANY, MORE, Mask, PrefixSet, Set
-from bgpnet.configs.bird.values import (EMPTY, LISTS, MOST, MOST_HALF, Address, Address6, Clist, Eclist, Enum, Incomparable,
-                                        Lclist, Pair, Path, Prefix6, Quad, Triple, are_same, compare, pair_of, type_of)
+from bgpnet.configs.bird.values import (EMPTY, LISTS, MOST, MOST_HALF, Address, Address6, Clist, Eclist, Enum,
+                                        Incomparable, Lclist, Pair, Path, Prefix6, Quad, Triple, are_same, compare,
+                                        pair_of, type_of)
 from bgpnet.configs.lists import mask_of
 from bgpnet.network import Prefix
 

@@ -2,33 +2,21 @@
 
 A set of numbers, pairs, addresses and such is a search tree, as BIRD builds it. Where one item lies inside another,
 the tree loses members: they are lost here too."""
-from bgpnet.configs.bird.values import Incomparable, compare
+from bgpnet.configs.bird.values import compared
 
 
 # How many values a set or a mask keeps its answers of.
 MOST_KNOWN = 65536
 
 
-def keep(known, key, answer):
-    """Keeps an answer, in place of all others where these are many."""
-    if len(known) >= MOST_KNOWN:
-        known.clear()
-    known[key] = answer
-
-
-def not_above(one, other):
-    """Whether a value is not above another. Of two types it is neither above nor below."""
-    try:
-        return compare(one, other) != 1
-    except Incomparable:
-        return True
-
-
-def is_below(one, other):
-    try:
-        return compare(one, other) == -1
-    except Incomparable:
-        return False
+def kept(known, key, find):
+    """The answer that is kept of a key; one that is not there is found, and kept in place of all others where these are
+    many."""
+    if key not in known:
+        if len(known) >= MOST_KNOWN:
+            known.clear()
+        known[key] = find()
+    return known[key]
 
 
 class Items:
@@ -47,18 +35,15 @@ class Items:
 
     def find(self, value):
         """The item that has a value, or None."""
-        key = type(value), value
-        if key not in self.known:
-            keep(self.known, key, self.search(value))
-        return self.known[key]
+        return kept(self.known, (type(value), value), lambda: self.search(value))
 
     def search(self, value):
         node = self.root
         while node:
             (low, high, _), left, right = node
-            if not_above(low, value) and not_above(value, high):
+            if compared(low, value) != 1 and compared(value, high) != 1:
                 return node[0]
-            node = right if is_below(low, value) else left
+            node = right if compared(low, value) == -1 else left
         return None
 
 
@@ -93,10 +78,8 @@ class PrefixSet:
         self.items, self.known = tuple(items), {}
 
     def has(self, prefix):
-        if prefix not in self.known:
-            keep(self.known, prefix, any(low <= prefix.length <= high and agrees(prefix, pattern)
-                                         for pattern, low, high in self.items))
-        return self.known[prefix]
+        return kept(self.known, prefix, lambda: any(low <= prefix.length <= high and agrees(prefix, pattern)
+                                                    for pattern, low, high in self.items))
 
     def __eq__(self, other):
         return isinstance(other, PrefixSet) and sorted(set(self.items)) == sorted(set(other.items))
@@ -122,9 +105,7 @@ class Mask:
 
     def fits(self, path):
         """Whether the whole path fits."""
-        if path not in self.known:
-            keep(self.known, path, self.search(path))
-        return self.known[path]
+        return kept(self.known, path, lambda: self.search(path))
 
     def search(self, path):
         places = self.closed({0})

@@ -30,11 +30,16 @@ class Statements(Terms):
         """A filter from behind its name on, or one without a name."""
         routine = Routine(kind, name, place)
         self.enter(routine)
+        self.read_body(routine)
+        return routine
+
+    def read_body(self, routine):
+        """The braces of a filter or a function, with variables by the old way in front: these are undefined."""
         while self.type_ahead():
-            self.declared_before(routine)
+            self.scopes.define(self.variable(self.type()))
+            self.expect(";")
         routine.body = self.block(False)
         self.leave()
-        return routine
 
     def where(self):
         """`where TERM`, as a filter."""
@@ -58,14 +63,9 @@ class Statements(Terms):
         while not self.is_next(")"):
             if routine.parameters:
                 self.expect(";")
-            type = self.type()
-            self.variable(type)
-            routine.parameters.append(type)
+            routine.parameters.append(self.scopes.define(self.variable(self.type())).type)
         self.expect(")")
-        while self.type_ahead():
-            self.declared_before(routine)
-        routine.body = self.block(False)
-        self.leave()
+        self.read_body(routine)
         return routine
 
     def enter(self, routine):
@@ -75,11 +75,6 @@ class Statements(Terms):
     def leave(self):
         self.scopes.levels.pop()
         self.routine = self.above
-
-    def declared_before(self, routine):
-        """A variable by the old way, in front of the braces: it is undefined."""
-        self.variable(self.type())
-        self.expect(";")
 
     # ---- types and variables
 
@@ -96,11 +91,10 @@ class Statements(Terms):
         return token.value
 
     def variable(self, type):
-        """Defines the variable that stands next, and answers where its value is kept."""
-        token = self.new_name("a variable")
-        symbol = self.scopes.define(Symbol(token.value, "variable", self.routine.size, type, token.place))
+        """The variable that the next name is to be defined as, with where its value is kept."""
+        token, slot = self.new_name("a variable"), self.routine.size
         self.routine.size += 1
-        return symbol
+        return Symbol(token.value, "variable", slot, type, token.place)
 
     # ---- statements
 
@@ -122,16 +116,13 @@ class Statements(Terms):
             return self.bare_block()
         if not self.type_ahead():
             return self.statement()
-        place, type = self.place, self.type()
-        symbol_at = self.token
-        name, slot = self.new_name("a variable").value, self.routine.size
-        self.routine.size += 1
+        place, symbol = self.place, self.variable(self.type())
         term = self.term() if self.take("=") else None
         self.expect(";")
-        self.scopes.define(Symbol(name, "variable", slot, type, symbol_at.place))
+        self.scopes.define(symbol)
         if term is not None:
-            self.check_type("VAR_INIT", type, term)
-        return Node("declare", [slot, type, term], None, place)
+            self.check_type("VAR_INIT", symbol.type, term)
+        return Node("declare", [symbol.value, symbol.type, term], None, place)
 
     def bare_block(self):
         """Braces of their own. BIRD keeps the room of their variables, and then mixes up what a loop keeps."""
@@ -147,8 +138,8 @@ class Statements(Terms):
     def statement(self):
         token = self.token
         words = {"{": self.block, "if": self.conditional, "case": self.switch, "for": self.loop,
-                 "return": self.returned, "accept": self.ending, "reject": self.ending, "print": self.printed,
-                 "printn": self.printed, "unset": self.unset}
+                 "return": self.returned, "accept": self.ending, "reject": self.ending, "print": self.ending,
+                 "printn": self.ending, "unset": self.unset}
         if token.kind in ("word", "sign") and token.value in words:
             return words[token.value]()
         if token.kind == "word" and (token.value in attributes.STATIC or token.value in attributes.DYNAMIC):
@@ -204,16 +195,12 @@ class Statements(Terms):
         if self.routine.kept:
             self.refuse(f"a loop behind braces that have a variable, at {self.routine.kept}: BIRD mixes their values "
                         "up", place)
-        if self.type_ahead():
-            type, token = self.type(), self.new_name("a variable")
-            symbol = Symbol(token.value, "variable", self.routine.size, type, token.place)
-            self.routine.size += 1
-        else:
-            symbol, token = self.known(("variable",), "variable"), None
+        is_new = self.type_ahead()
+        symbol = self.variable(self.type()) if is_new else self.known(("variable",), "variable")
         self.expect("in")
         term = self.term()
         self.scopes.levels.append({})
-        if token:
+        if is_new:
             self.scopes.define(symbol)
         if term.type and term.type not in ELEMENTS:
             self.refuse(f"the value behind 'in' must be a path or a list, and is {term.type}", term.place)
@@ -236,10 +223,6 @@ class Statements(Terms):
     def ending(self):
         token = self.next()
         return Node(token.value, [self.terms()], None, token.place)
-
-    def printed(self):
-        token = self.next()
-        return Node("print", [self.terms()], None, token.place)
 
     def returned(self):
         place = self.next().place

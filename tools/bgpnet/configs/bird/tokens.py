@@ -7,6 +7,7 @@ from collections import namedtuple
 from bgpnet.configs.bird.keywords import KEYWORDS
 from bgpnet.configs.bird.values import MOST, Address, Address6, Distinguisher
 from bgpnet.configs.places import Place, refusal
+from bgpnet.configs.sessions import dotted
 from bgpnet.configs.syntax import address_of
 
 # A token: `word` is a keyword, `name` any other; else it is a number, an address, a text or a sign.
@@ -110,5 +111,5 @@ class Lexer:
 
 def written(token):
     """A token as it stands in the file."""
-    return f'"{token.value}"' if token.kind == "text" else str(token.value) if token.kind != "address" else \
-        ".".join(str(token.value >> shift & 255) for shift in (24, 16, 8, 0))
+    return f'"{token.value}"' if token.kind == "text" else dotted(token.value) if token.kind == "address" else \
+        str(token.value)

@@ -116,9 +116,15 @@ def compare(one, other):
     return compare_texts(one, other) if type(one) is str else (one > other) - (one < other)
 
 
+def compared(one, other):
+    """The same, None of values that have no order."""
+    try:
+        return compare(one, other)
+    except Incomparable:
+        return None
+
+
 def are_same(one, other):
     """Whether two values are equal; those of two types are not."""
-    try:
-        return compare(one, other) == 0
-    except Incomparable:
-        return type(one) is type(other) and one == other
+    found = compared(one, other)
+    return found == 0 if found is not None else type(one) is type(other) and one == other
