@@ -192,6 +192,19 @@ times.sort((one, other) => one - other);
 answer({times, at: page.at, far});
 """
 
+SEEN = """
+const places = [];
+for (const height of [1000, 720, 600]) {
+  document.getElementById("messages").style.maxHeight = `${0.84 * height}px`;
+  show(run.events.length - 1);
+  const box = document.getElementById("messages"), {top} = box.getBoundingClientRect();
+  const rows = [...document.querySelectorAll("#chart .event")].map((row) => row.getBoundingClientRect().bottom);
+  places.push([height, document.querySelector("#chart .head").getBoundingClientRect().top, Math.max(...rows), top,
+    top + box.clientHeight]);
+}
+answer(places);
+"""
+
 
 @unittest.skipUnless(browser_path(), "no Chromium")
 class Browsed(unittest.TestCase):
@@ -216,6 +229,14 @@ class Browsed(unittest.TestCase):
             self.assertIn("before the first", walked["back"]["event"])
             self.assertEqual(walked["line"]["line"], traced.events[0].line)
             self.assertIn(f"event {min(12, whole)} of", walked["linked"]["event"])
+
+    def test_the_last_row_is_seen(self):
+        """Of the event that is shown, with the routers above it, on screens of several heights."""
+        places = Page(page_of_file(EXAMPLES[0])).answers(SEEN)
+        for height, head, row, top, bottom in places:
+            with self.subTest(height=height):
+                self.assertLessEqual(top, head)
+                self.assertLessEqual(row, bottom)
 
     def test_a_large_run_is_small_and_quick(self):
         status, text, err = run("topology", "--routers", "64", "--seed", "3", "--rules", "shortest")

@@ -229,50 +229,36 @@ class Set(Named):
             if not end.neighbor.is_active:
                 end.router.warn(end.neighbor.place, f"neighbor {end.neighbor.key} is not activated: the session "
                                                     "carries no routes")
-        for end, far in ((one, other), (other, one)):
-            self.reasons.attempt(self.check_address, end, far)
-            self.reasons.attempt(self.check_source, end, far)
-            self.reasons.attempt(self.check_hops, end, far)
-        self.reasons.attempt(self.check_password, one, other)
-        self.check_passive(one, other)
+        for why in (*self.unfit(one, other), *self.unfit(other, one), *self.unfit_together(one, other)):
+            self.reasons.add(why)
 
     @staticmethod
-    def check_address(end, far):
-        """Refuses a neighbor's address that the other end does not have."""
+    def unfit(end, far):
+        """Why an end does not fit the other: the neighbor's address is none of it, it does not name the source, or its
+        segments live too short for `ttl-security`."""
+        neighbor, source, line = end.neighbor, end.neighbor.line("source"), end.neighbor.line("ttl-security")
         own = {*far.router.addresses, *(one.value("source") for one in far.router.neighbors.values())}
-        if far.router.addresses and end.neighbor.address not in own:
-            raise refusal(end.neighbor.place, f"neighbor {end.neighbor.key} is no address of {far.router.name}")
-
-    @staticmethod
-    def check_password(one, other):
-        secrets = [end.neighbor.line("password") for end in (one, other)]
-        if (secrets[0] and secrets[0].name) != (secrets[1] and secrets[1].name):
-            said = secrets[0] or secrets[1]
-            end = other if secrets[0] else one
-            raise refusal(said.place, f"the password is not that of the other end, {end.neighbor.place}")
-
-    @staticmethod
-    def check_passive(one, other):
-        if all(end.neighbor.value("passive", False) for end in (one, other)):
-            raise refusal(one.neighbor.line("passive").place, f"both ends are passive: the other at "
-                                                              f"{other.neighbor.line('passive').place}")
-
-    @staticmethod
-    def check_source(end, far):
-        """Refuses a source that the other end does not name."""
-        source = end.neighbor.line("source")
+        if far.router.addresses and neighbor.address not in own:
+            yield refusal(neighbor.place, f"neighbor {neighbor.key} is no address of {far.router.name}")
         if source and isinstance(source.name, int) and source.name != far.neighbor.address:
-            raise refusal(source.place, f"the source is {dotted(source.name)}, and {far.neighbor.place} names "
+            yield refusal(source.place, f"the source is {dotted(source.name)}, and {far.neighbor.place} names "
                                         f"{far.neighbor.key}")
-
-    @staticmethod
-    def check_hops(end, far):
-        """Refuses `ttl-security` where the other end's segments live too short."""
-        line = end.neighbor.line("ttl-security")
         lives = 255 if far.neighbor.line("ttl-security") else far.neighbor.value("ebgp-multihop", 1)
         if line and lives < 256 - line.name:
-            raise refusal(line.place, f"ttl-security hops {line.name} takes a TTL from {256 - line.name}, and the "
+            yield refusal(line.place, f"ttl-security hops {line.name} takes a TTL from {256 - line.name}, and the "
                                       f"other end, {far.neighbor.place}, sends with {lives}")
+
+    @staticmethod
+    def unfit_together(one, other):
+        """Why two ends do not fit: they have not one password, or both are passive."""
+        secrets = [end.neighbor.line("password") for end in (one, other)]
+        if (secrets[0] and secrets[0].name) != (secrets[1] and secrets[1].name):
+            end = other if secrets[0] else one
+            yield refusal((secrets[0] or secrets[1]).place, f"the password is not that of the other end, "
+                                                            f"{end.neighbor.place}")
+        if all(end.neighbor.value("passive", False) for end in (one, other)):
+            yield refusal(one.neighbor.line("passive").place, f"both ends are passive: the other at "
+                                                              f"{other.neighbor.line('passive').place}")
 
     def carries(self, asn, peer):
         """Whether routes go over a session, as far as that is known where something is refused."""

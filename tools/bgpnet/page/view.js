@@ -4,7 +4,8 @@
 const SVG = "http://www.w3.org/2000/svg";
 const RADIUS = 24, SIDE = 5, PLACES = {outbox: 0.3, pipe: 0.5, taken: 0.7};
 const LINE = 25, MOST_PATHS = 5; // of the texts beside a router
-const LANE = 150, ROW = 34, TOP = 56, LEFT = 96, RIGHT = 260, MOST_ROWS = 24; // of the chart
+const LANE = 150, ROW = 34, TOP = 56, LEFT = 96, RIGHT = 260, MOST_ROWS = 24, LEAST_ROWS = 6; // of the chart
+const EDGES = 40; // of a part of the page, with a bar to scroll by
 const FAR = 10; // how many events the page keys go
 const FEW = 12; // so many routers have their paths written beside them, and their lines in the chart
 
@@ -205,15 +206,21 @@ function drawArrow(svg, arrow, [x, y], [toX, toY]) {
   element(svg, "text", {class: "said amid", x: (x + endX) / 2, y: (y + toY) / 2 - 6}, arrow.text);
 }
 
+// How many rows of the chart are seen at once: as many as its part of the page, which has a greatest height, has room for.
+function rowsSeen() {
+  const high = parseFloat(getComputedStyle(find("messages")).maxHeight) || Infinity;
+  return Math.max(LEAST_ROWS, Math.min(MOST_ROWS, Math.floor((high - EDGES - TOP - 2 * ROW) / ROW)));
+}
+
 function drawChart(state) {
-  const {columns, rows, arrows} = chartOf(), svg = find("chart");
+  const {columns, rows, arrows} = chartOf(), svg = find("chart"), most = rowsSeen();
   let last = rows.length;
   while (last && rows[last - 1].number > page.at) last -= 1;
-  const first = Math.max(0, last - MOST_ROWS), x = (router) => LEFT + LANE * columns.indexOf(router);
+  const first = Math.max(0, last - most), x = (router) => LEFT + LANE * columns.indexOf(router);
   const y = (row) => TOP + ROW * (row - first + 1), right = LEFT + LANE * (columns.length - 1);
   svg.replaceChildren();
   svg.setAttribute("width", right + RIGHT);
-  svg.setAttribute("height", y(first + MOST_ROWS) + ROW);
+  svg.setAttribute("height", y(first + most) + ROW);
   for (const router of columns) {
     element(svg, "line", {class: "life", x1: x(router), x2: x(router), y1: TOP - 12, y2: y(last)});
     element(svg, "rect", {class: router === page.router ? "head chosen" : "head", x: x(router) - 34, y: 8, width: 68, height: 34, rx: 6});
@@ -347,4 +354,5 @@ document.addEventListener("keydown", (key) => {
   return undefined;
 });
 window.addEventListener("hashchange", follow);
+window.addEventListener("resize", () => show(page.at));
 follow();

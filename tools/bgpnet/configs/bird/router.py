@@ -132,8 +132,10 @@ class Router(Speaker):
                           "restarts, 120 seconds if nothing else is said: what is said here of a crash and of a silent "
                           "failure is not what happens meanwhile")
         if peer.channel is not None:
-            for check in (self.check_table, self.check_hop, self.check_gateway, self.check_server, self.check_out):
-                self.reasons.attempt(check, peer)
+            for why in self.obstacles(peer):
+                self.reasons.add(why)
+            if "hop" in peer.channel.said and not peer.is_direct:
+                self.warn(peer.channel.said["hop"].place, f"'{peer.channel.said['hop'].name}' is not read")
         first = self.neighbors.setdefault(peer.address, peer)
         if first is not peer:
             self.warn(peer.place, f"protocol {peer.name}: {first.place} has this neighbor too, and comes first: there "
@@ -148,40 +150,24 @@ class Router(Speaker):
                                                           f"channel {family}: BIRD does not take it"))
                     channel.policies[direction] = Line(False, channel.end)
 
-    # What depends on whether next hops are reached, and other tables.
-
-    @staticmethod
-    def check_table(peer):
-        line = peer.channel.said.get("table")
-        if line:
-            raise refusal(line.place, f"table {line.name}: another table than master4: one is read")
-
-    def check_hop(self, peer):
-        line = peer.channel.said.get("hop")
-        if line and peer.is_direct:
-            raise refusal(line.place, f"'{line.name}': the neighbor takes the route only if it reaches the next hop, "
-                                      "which is not known here")
-        if line:
-            self.warn(line.place, f"'{line.name}' is not read")
-
-    @staticmethod
-    def check_gateway(peer):
-        line = peer.channel.said.get("gateway")
-        if line and (line.name == "direct") != peer.is_direct:
-            raise refusal(line.place, "gateway: whether a next hop is reached is not known here")
-
-    @staticmethod
-    def check_server(peer):
+    def obstacles(self, peer):
+        """Why a channel is refused: what depends on whether next hops are reached, and other tables."""
+        table, hop, gateway = (peer.channel.said.get(kind) for kind in ("table", "hop", "gateway"))
+        if table:
+            yield refusal(table.place, f"table {table.name}: another table than master4: one is read")
+        if hop and peer.is_direct:
+            yield refusal(hop.place, f"'{hop.name}': the neighbor takes the route only if it reaches the next hop, "
+                                     "which is not known here")
+        if gateway and (gateway.name == "direct") != peer.is_direct:
+            yield refusal(gateway.place, "gateway: whether a next hop is reached is not known here")
         if peer.option("rs client") and peer.is_direct and not peer.is_own_hop():
-            raise refusal(peer.protocol.said["rs client"].place, "rs client: the next hop is kept, and whether the "
+            yield refusal(peer.protocol.said["rs client"].place, "rs client: the next hop is kept, and whether the "
                           "client reaches it by its own interfaces is not known here")
-
-    def check_out(self, peer):
         for routine in self.routines_of(peer.policy("export")):
             for node in routine.body.walk():
                 if node.op in ("set attribute", "unset") and node.args[0] == "bgp_next_hop":
-                    self.reasons.add(refusal(node.place, "bgp_next_hop is set outwards: the neighbor takes the route "
-                                                         "only if it reaches the next hop, which is not known here"))
+                    yield refusal(node.place, "bgp_next_hop is set outwards: the neighbor takes the route only if it "
+                                              "reaches the next hop, which is not known here")
 
     @staticmethod
     def routines_of(policy):
