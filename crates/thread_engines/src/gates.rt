@@ -1,6 +1,6 @@
 //! The gate of a router of `bgpnet run` and `bgpnet record`.
 
-ghost use Rattle.std.specs.Prelude.{◌≡◌, ℕ, ◌+◌, ◌-◌, ◌/◌, ◌<◌, ◌≤◌, [], IsTrue};
+ghost use Rattle.std.specs.Prelude.{◌≡◌, ℕ, ◌+◌, ◌-◌, ◌/◌, ◌<◌, ◌≤◌, [], true};
 ghost use Rattle.worker_loop.specs.declared.chore.Chore.TheVariants.{Turn};
 ghost use Rattle.thread_engines.specs.Gates.{AreChores, HasTakenAll, asked_of, chore_at, later_chore, given_by, script_of, taken_by};
 
@@ -66,7 +66,7 @@ impl RunGate {
 
     /// Whether each snapshot that it was asked for is given in its turn: none is left out for one that has settled.
     pub fn has_taken_all(&self) -> bool
-        ensures { IsTrue result → HasTakenAll self.now }
+        ensures { result ≡ true → HasTakenAll self.now }
     {
         self.taken() == self.snapshots
     }

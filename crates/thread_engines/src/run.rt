@@ -1,6 +1,6 @@
 //! `bgpnet run`: the routes on which a network in threads settles.
 
-ghost use Rattle.std.specs.Prelude.{◌≡◌, ◌⊎◌, ℕ, IsTrue, IfOk};
+ghost use Rattle.std.specs.Prelude.{◌≡◌, ◌⊎◌, ℕ, true, IfOk};
 ghost use Rattle.text_engines.specs.Decoding.{output};
 ghost use Rattle.thread_engines.specs.Gates.{HaveTakenAll};
 ghost use Rattle.thread_engines.specs.Running.{HasSetting, IsFirstWanted, RunGives};
@@ -34,7 +34,7 @@ fn has_setting(network: &Network)
 
 // Whether no gate left out a snapshot.
 fn have_taken_all(workers: &[Worked<'_, RunGate>]) -> bool
-    ensures { IsTrue result → HaveTakenAll workers.now }
+    ensures { result ≡ true → HaveTakenAll workers.now }
 {
     for worked in workers {
         if !worked.gate.has_taken_all() {
@@ -46,7 +46,7 @@ fn have_taken_all(workers: &[Worked<'_, RunGate>]) -> bool
 
 // Whether no snapshot is missing: all were taken, or one that was is settled with every origin originating.
 fn is_answered(network: &Network, journals: &Journals<'_, RunGate>, last: u32) -> bool
-    ensures { IsTrue result → HaveTakenAll journals.now.workers.items
+    ensures { result ≡ true → HaveTakenAll journals.now.workers.items
         ⊎ ((s : ℕ) × IsFirstWanted network.now journals.now.collector last s) }
 {
     if have_taken_all(journals.workers.as_slice()) {
