@@ -24,8 +24,11 @@ fn originates(part: Option<&Part>, origin: &Origin) -> bool {
     }
 }
 
-// Whether a snapshot came out settled.
+// Whether a snapshot came out settled. While it waits for offers, none of them is looked at.
 fn is_settled(collector: &Collector, number: u32) -> bool {
+    if !collector.is_decided(number) {
+        return false;
+    }
     match collector.outcome(number) {
         Outcome::Settled => true,
         Outcome::Waiting | Outcome::Abandoned(_) | Outcome::Moving { .. } => false,

@@ -38,8 +38,9 @@ impl RunGate {
         requires { 0 < spacing }
         ensures nothing { given_by result ≡ [] }
         ensures asked { asked_of result ≡ record {
-            script = record { opening = opening.items; spacing = spacing; snapshots = snapshots };
-            until = until } }
+          script = record { opening = opening.items; spacing = spacing; snapshots = snapshots };
+          until = until;
+        } }
         ensures script { script_of result
             ≡ record { opening = opening.items; spacing = spacing; snapshots = snapshots } }
         ensures chores { AreChores (script_of result) (chore_at (script_of result)) }

@@ -47,8 +47,7 @@ pub trait Gate {
         requires { _turn ≡ length (given self.old) }
         ensures given { given self.new ≡ given self.old }
         ensures script { script self.new ≡ script self.old }
-    {
-    }
+    {}
 
     /// Gives the next chores of a worker that was given `turn` chores so far, at most so many, as long as they are
     /// Turns, and answers how many it gave. A gate that does not say so gives none: then [`Gate::next`] gives each.
