@@ -1,4 +1,4 @@
-use Rattle.std.proofs.Common.{◌⊎◌, ◌≡◌, ◌×◌, ℕ, inl, inr, refl}
+use Rattle.std.proofs.Common.{◌⊎◌, ◌≡◌, ℕ, inl, inr, refl}
 use Rattle.net_workers.specs.Gathered.{all_events}
 use Rattle.net_workers.specs.declared.record.RunFault.TheVariants.{BoardDiffers}
 use Rattle.text_engines.specs.Decoding.{output}
