@@ -10,10 +10,12 @@ use Rattle.worker_loop.specs.declared.chore.Chore.{Chore}
 use Rattle.worker_loop.specs.declared.chore.Chore.TheVariants.{Turn, Command}
 use Rattle.net_workers.specs.declared.record.Worked.{Worked}
 use Rattle.text_engines.proofs.CheckLemmas.{within}
+use Rattle.thread_engines.specs.declared.chores.RunOptions.{RunOptions}
 use Rattle.thread_engines.specs.declared.gates.RunGate.{RunGate}
 use Rattle.thread_engines.specs.declared.gates.Until.{Until}
 use Rattle.thread_engines.specs.declared.gates.Until.TheVariants.{Last, OneSettled}
-use Rattle.thread_engines.specs.Gates.{Script, Asked, asked_of, asked_for, script_of, scripts_for, opening, later_chore, chore_at, first_chores, last_taken, HaveTakenAll}
+use Rattle.thread_engines.specs.Gates.{Script, Asked, asked_of, asked_for, script_of, scripts_for, spacing_of, opening, later_chore, chore_at, first_chores, last_taken, HaveTakenAll}
+use Rattle.thread_engines.specs.Records.{run_scripts}
 use Rattle.thread_engines.proofs.GateLemmas.{counted}
 
 -- ---- the chores of a gate
@@ -70,6 +72,11 @@ given_still until opening q s l p count turn len less t many few =
     subst (λ (n : ℕ). (i - n) / q ≤ p) many (few i here behind apart)))
 
 -- ---- the scripts of all gates
+
+-- what the gates of a run are asked for
+pub asked_so : (options : RunOptions) (until : Until) (net : Plan) (gates : List RunGate) (spacing : ℕ) → spacing ≡ spacing_of net options
+    → map asked_of gates ≡ asked_for until (scripts_for net spacing options.snapshots net.routers) → map asked_of gates ≡ asked_for until (run_scripts options net)
+asked_so options until net gates spacing is asked = asked ∙ ap (λ (n : ℕ). asked_for until (scripts_for net n options.snapshots net.routers)) is
 
 -- the script that a gate follows, by what it was asked for
 followed : (g : RunGate) (s : Script) (until : Until) → asked_of g ≡ record { script = s; until = until }

@@ -12,8 +12,8 @@ use Rattle.thread_engines.proofs.LeftOutLemmas.{so_followed}
 use Rattle.thread_engines.proofs.RunLemmas.{record_gives}
 use Rattle.thread_engines.proofs.run.network_output.Goals as goal
 
-pub returns-in-Ok : goal.returns-in-Ok
-returns-in-Ok g c =
+pub returns-else-not-is_answered : goal.returns-else-not-is_answered
+returns-else-not-is_answered g c =
     let r = c.in-Ok.journals in
     let sorted = c.events_can_be_sorted.ensures (all_events r.workers.items) in
     let net = c.args.network.now in
@@ -47,6 +47,6 @@ returns-then-not-is_answered g c =
 
 pub returns-in-Err : goal.returns-in-Err
 returns-in-Err g c =
-    both_ok _ _ _ c.fault_output.result
+    both_ok _ _ _ c.fault_output-in-Err.result
     (λ printed kind is. run_fails c.args.options.now OneSettled c.args.network.now (output printed.0.items printed.1) _ c.in-Err.fault kind c.in-Err.ensures.refused c.in-Err.ensures.fault is)
-    c.fault_output.ensures.kind c.fault_output.ensures.output
+    c.fault_output-in-Err.ensures.kind c.fault_output-in-Err.ensures.output
