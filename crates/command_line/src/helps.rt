@@ -295,9 +295,8 @@ pub const RUN_HELP: &str = two_routers!(
     "",
     "
 Each router runs in a thread of its own: it starts its sessions, originates its prefixes, and then
-takes turns, N chores in all. The least router takes the snapshots 1 to K, evenly spaced. Where one
-of them found the network at rest, every prefix originated, the output is the routes of the first
-that did
+takes turns, N chores in all. The least router takes the snapshots 1 to K, evenly spaced, until one of
+them finds the network at rest, every prefix originated. The output is the routes of the first that did
 
     route 1 10.1.0.0/16 1
     route 2 10.1.0.0/16 2-1
@@ -311,9 +310,9 @@ to 1000000. 'bgpnet --help' has the codes, and the lines of a network."
 pub const RECORD_HELP: &str = two_routers!(
     "",
     "
-Each router runs in a thread of its own, as 'run --help' says. The output is the network's lines, the
-line 'schedule', each event that the threads did as an order, and as comments what they ended in, so
-that it is an input for 'play', 'trace' and 'cut'. It begins so:
+Each router runs in a thread of its own, as 'run --help' says, and all K snapshots are taken. The output
+is the network's lines, the line 'schedule', each event that the threads did as an order, and as
+comments what they ended in, so that it is an input for 'play', 'trace' and 'cut'. It begins so:
 
     router 1 10.0.0.1
     router 2 10.0.0.2

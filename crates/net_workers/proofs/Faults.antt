@@ -1,6 +1,6 @@
 -- How the workers ended, and why there is no record.
 use Rattle.std.proofs.Common.{◌≡◌, ℕ, suc, ◌<◌, arith, List, [], ◌∷◌, length, map, refl, ap, ◌∙◌, inl, inr, Option, None, Some}
-use Rattle.std.specs.Prelude.{IfNone, IfSome, IfOk, IfErr, IsErrAnd, Result, Ok, Err, slice_index_or}
+use Rattle.std.specs.Prelude.{IfNone, IfSome, IfOk, IfErr, OnOk, IsErrAnd, Result, Ok, Err, slice_index_or}
 use Rattle.std.specs.List.{AllByRecursion}
 use Rattle.ranked_policy.specs.Plans.{Plan, IsNetwork, numbers}
 use Rattle.worker_loop.specs.declared.chore.Chore.{Chore}
@@ -46,6 +46,10 @@ never_differs (e ∷ es) h = never_differs_by e.worker.router.number e.fault (fi
 pub err_so : {A E : Type 0} → (r : Result A E) (P Q : E → Type 0) → ((e : E) → P e → Q e) → IfErr r P → IfErr r Q
 err_so (Ok x) P Q f h = tt
 err_so (Err e) P Q f h = f e h
+
+pub ok_so : {A E : Type 0} → (r : Result A E) (P Q : Type 0) → (P → Q) → OnOk r P → OnOk r Q
+ok_so (Ok x) P Q f h = f h
+ok_so (Err e) P Q f h = tt
 
 -- memory was wanting where no worker has a fault
 pub wants_memory : {A G : Type 0} → (r : Result A RunFault) (ends : List (Finished G)) → first_fault ends ≡ None → IsErrAnd r (λ why. why ≡ fault.Memory) → IfErr r (IsFaultOf ends)

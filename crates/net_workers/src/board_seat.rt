@@ -6,6 +6,7 @@ ghost use Rattle.snap_marker.specs.Parts.{offer_of, router_of};
 ghost use Rattle.offer_board.specs.Boards.{collected_in, AreCopies};
 ghost use Rattle.net_workers.specs.Offering.{ended_by, HasMade, OffersAt};
 
+use crate::lookout::Lookout;
 use crate::sleepers::Sleepers;
 use offer_board::{BoardState, CollectError, Made, two_copies};
 use ranked_policy::Network;
@@ -14,11 +15,12 @@ use std::alloc::{AllocError, Global};
 use std::sync::{Mutex, Wait};
 use worker_loop::{Between, Desk, WorkerFault};
 
-/// What all workers share: the board, and which of them sleep.
+/// What all workers share: the board, which of them sleep, and whether a snapshot has settled.
 #[derive(Drop)]
 pub struct Board {
     state: Mutex<BoardState>,
     pub(crate) sleepers: Sleepers,
+    lookout: Lookout,
 }
 
 impl Board {
@@ -27,6 +29,7 @@ impl Board {
         Ok(Board {
             state: Mutex::new(BoardState::new(alloc, network)?),
             sleepers: Sleepers::new(alloc, network)?,
+            lookout: Lookout::new(alloc, network)?,
         })
     }
 
@@ -162,11 +165,17 @@ impl Desk for BoardSeat {
         room: Result<(), AllocError>,
     ) -> Result<u64, WorkerFault> {
         let copies = copies_of(*self.made.allocator(), offer, room);
-        let mut board = board.state.lock(rt);
-        self.offer_copies(&mut board, stamp, offer, copies)
+        let mut state = board.state.lock(rt);
+        let answer = self.offer_copies(&mut state, stamp, offer, copies);
+        board.lookout.look(state.collector(), offer.number());
+        answer
     }
 
     fn pause<R: Wait>(&self, rt: &R, board: &Board, between: &Between<'_>) -> bool {
         board.sleepers.pause(rt, between)
+    }
+
+    fn has_settled(&self, board: &Board) -> bool {
+        board.lookout.has_settled()
     }
 }

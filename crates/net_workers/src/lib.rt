@@ -12,6 +12,7 @@ mod board_seat;
 mod dealing;
 mod gathering;
 pub mod laws;
+mod lookout;
 mod net;
 mod record;
 mod running;

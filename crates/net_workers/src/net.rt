@@ -1,12 +1,12 @@
 //! Running a network.
 
-ghost use Rattle.std.specs.Prelude.{◌≡◌, ◌≢◌, ◌<◌, ◌↔◌, ℕ, [], length, map, true, All, IsTrue, IfOk, IfErr, OnOk, IfNone, IfSome, slice_index_or, MatchOption};
+ghost use Rattle.std.specs.Prelude.{◌≡◌, ◌≢◌, ◌<◌, ◌↔◌, ℕ, [], length, map, true, None, All, IsTrue, IfOk, IfErr, OnOk, IfNone, IfSome, slice_index_or, MatchOption};
 ghost use Rattle.std.specs.List.{AllByRecursion};
 ghost use Rattle.ranked_policy.specs.Plans.{IsRouter};
 ghost use Rattle.snap_marker.specs.Parts.{router_of};
 ghost use Rattle.snap_collector.specs.Collector.{AreMembers, made_for, with_offers};
 ghost use Rattle.offer_board.specs.Boards.{offers_in};
-ghost use Rattle.net_workers.specs.Faults.{HaveEnded, IsFaultOf, FaultOf};
+ghost use Rattle.net_workers.specs.Faults.{HaveEnded, IsFaultOf, FaultOf, EndedSo};
 ghost use Rattle.net_workers.specs.Ran.{first_fault, worked_of, lines_of, passed_by, OffersOf, AreLimits, AreRecord};
 ghost use Rattle.net_workers.specs.Handed.{JournalsOf, RecordOf};
 ghost use Rattle.net_workers.specs.Runs.{JournalsKeepPromises};
@@ -205,6 +205,7 @@ where
     ensures other { IfErr result (λ why. why ≢ RunFault.BadLimits) }
     ensures fault { IfErr result (FaultOf G.given G.script network.now turns (map G.script gates.items)) }
     ensures ran { IfOk result (JournalsOf G.given G.script network.now turns (map G.script gates.items)) }
+    ensures ended { OnOk result (EndedSo G.given G.script network.now turns (map G.script gates.items) None) }
 {
     let board = Board::new(alloc, network)?;
     let workers = ended_workers(rt, alloc, network, gates, turns, &board)?;
@@ -242,6 +243,8 @@ where
     // those before it did their chores.
     ensures fault { IfErr result (FaultOf G.given G.script network.now limits.turns (map G.script gates.items)) }
     ensures ran { IfOk result (JournalsOf G.given G.script network.now limits.turns (map G.script gates.items)) }
+    // Some workers with these scripts have ended without a fault.
+    ensures ended { OnOk result (EndedSo G.given G.script network.now limits.turns (map G.script gates.items) None) }
 {
     if !are_limits(network, limits.turns, gates.len()) {
         return Err(RunFault::BadLimits);

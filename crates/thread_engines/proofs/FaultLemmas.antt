@@ -5,10 +5,11 @@ use Rattle.net_workers.specs.declared.record.RunFault.{RunFault}
 use Rattle.net_workers.specs.declared.record.RunFault.TheVariants as fault
 use Rattle.text_engines.specs.Decoding.{Output}
 use Rattle.thread_engines.specs.declared.chores.RunOptions.{RunOptions}
+use Rattle.thread_engines.specs.declared.gates.Until.{Until}
 use Rattle.thread_engines.specs.Records.{EndsIn, IsFaultOfRun, RunPrints, faulty}
 
-module _ (options : RunOptions) (net : Plan) (out : Output) (of_record : Type 0) where
-  pub run_fails : (why : RunFault) → why ≢ fault.Memory → IsFaultOfRun options net why → EndsIn options net why → out ≡ faulty why → RunPrints options net out of_record
+module _ (options : RunOptions) (until : Until) (net : Plan) (out : Output) (of_record : Type 0) where
+  pub run_fails : (why : RunFault) → why ≢ fault.Memory → IsFaultOfRun options net why → EndsIn options until net why → out ≡ faulty why → RunPrints options until net out of_record
   run_fails fault.Memory kind of ended is = absurd (kind refl)
   run_fails (fault.WorkerRefused u) kind (inl bad) ended is = absurd (let e = bad.0 in cc)
   run_fails (fault.WorkerRefused u) kind (inr good) ended is = inr (good.1, inl (inl (u, ended, is)))

@@ -15,12 +15,13 @@ use Rattle.router_model.specs.Settings.{linked, peers}
 use Rattle.router_model.specs.declared.command.Command.TheVariants.{Start, Originate, Snapshot}
 use Rattle.worker_loop.specs.declared.chore.Chore.{Chore}
 use Rattle.worker_loop.specs.declared.chore.Chore.TheVariants.{Turn, Command}
-use Rattle.thread_engines.specs.Gates.{opening, first_router, Script, AreChores, numbered_or_turn, later_chore, chore_at, first_chores, scripts_for}
+use Rattle.thread_engines.specs.declared.gates.Until.{Until}
+use Rattle.thread_engines.specs.Gates.{opening, first_router, Script, Asked, AreChores, numbered_or_turn, later_chore, chore_at, first_chores, asked_for, scripts_for}
 use Rattle.text_engines.proofs.CheckLemmas.{within}
 
 -- ---- one more chore is given
 
-counted : (chore : ℕ → Chore) (n : ℕ) → length (first_chores chore n) ≡ n
+pub counted : (chore : ℕ → Chore) (n : ℕ) → length (first_chores chore n) ≡ n
 counted chore zero = refl
 counted chore (suc n) =
     let h = counted chore n in
@@ -192,24 +193,28 @@ few_links net u links are =
     let few = count_by-le-length (linked net u) (numbers net.routers) in
     omega (arith, many, counted, all, few)
 
--- ---- the script of each router, one by one
+-- ---- what each gate is asked for, one by one
 
-pub scripts_on : (net : Plan) (spacing left : ℕ) (rs : List NetRouter) (i : ℕ) (r : NetRouter) (old new all : List Script) → i < length rs → r ≡ get_or rs i r
-    → new ≡ old ++ record { opening = opening net r.asn; spacing = spacing; snapshots = left } ∷ [] → old ++ scripts_for net spacing left (drop i rs) ≡ all
-    → new ++ scripts_for net spacing 0 (drop (i + 1) rs) ≡ all
-scripts_on net spacing left rs i r old new all below at put h =
-    let one : Script = record { opening = opening net r.asn; spacing = spacing; snapshots = left } in
-    let rest = scripts_for net spacing 0 (drop (i + 1) rs) in
+pub asked_on : (until : Until) (net : Plan) (spacing left : ℕ) (rs : List NetRouter) (i : ℕ) (r : NetRouter) (old new all : List Asked) → i < length rs → r ≡ get_or rs i r
+    → new ≡ old ++ record { script = record { opening = opening net r.asn; spacing = spacing; snapshots = left }; until = until } ∷ []
+    → old ++ asked_for until (scripts_for net spacing left (drop i rs)) ≡ all → new ++ asked_for until (scripts_for net spacing 0 (drop (i + 1) rs)) ≡ all
+asked_on until net spacing left rs i r old new all below at put h =
+    let one : Asked = record { script = record { opening = opening net r.asn; spacing = spacing; snapshots = left }; until = until } in
+    let rest = asked_for until (scripts_for net spacing 0 (drop (i + 1) rs)) in
     let left_is : drop i rs ≡ r ∷ drop (i + 1) rs = drop_more rs i r below ∙ ap (λ (y : NetRouter). y ∷ drop (i + 1) rs) (sym at) in
-    ap (λ (t : List Script). t ++ rest) put ∙ append_assoc old (one ∷ []) rest ∙ ap (λ (ys : List NetRouter). old ++ scripts_for net spacing left ys) (sym left_is) ∙ h
+    ap (λ (t : List Asked). t ++ rest) put ∙ append_assoc old (one ∷ []) rest ∙ ap (λ (ys : List NetRouter). old ++ asked_for until (scripts_for net spacing left ys)) (sym left_is) ∙ h
 
-pub all_scripts : (net : Plan) (spacing left : ℕ) (rs : List NetRouter) (i : ℕ) (old all : List Script) → length rs ≤ i → old ++ scripts_for net spacing left (drop i rs) ≡ all → old ≡ all
-all_scripts net spacing left rs i old all far h =
-    sym (append-nil old) ∙ ap (λ (ys : List NetRouter). old ++ scripts_for net spacing left ys) (sym (drop_all i rs far)) ∙ h
+pub all_asked : (until : Until) (net : Plan) (spacing left : ℕ) (rs : List NetRouter) (i : ℕ) (old all : List Asked) → length rs ≤ i
+    → old ++ asked_for until (scripts_for net spacing left (drop i rs)) ≡ all → old ≡ all
+all_asked until net spacing left rs i old all far h =
+    sym (append-nil old) ∙ ap (λ (ys : List NetRouter). old ++ asked_for until (scripts_for net spacing left ys)) (sym (drop_all i rs far)) ∙ h
 
 pub scripts_len : (net : Plan) (spacing left : ℕ) (rs : List NetRouter) → length (scripts_for net spacing left rs) ≡ length rs
 scripts_len net spacing left [] = refl
 scripts_len net spacing left (r ∷ rs) = ap suc (scripts_len net spacing 0 rs)
+
+pub asked_len : (until : Until) (scripts : List Script) → length (asked_for until scripts) ≡ length scripts
+asked_len until scripts = length-map scripts (λ s. record { script = s; until = until })
 
 pub first_is : (rs : List NetRouter) (d : NetRouter) → 0 < length rs → first_router rs ≡ (get_or rs 0 d).asn
 first_is [] d some = absurd (omega (arith, some))

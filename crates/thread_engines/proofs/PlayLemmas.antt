@@ -46,6 +46,7 @@ use Rattle.schedule_text.proofs.HeadLemmas.{front_is, rest_is, head_parted}
 use Rattle.text_engines.proofs.WritingLemmas.{not_done, short_text}
 use Rattle.thread_engines.specs.declared.chores.RunOptions.{RunOptions}
 use Rattle.thread_engines.specs.declared.gates.RunGate.{RunGate}
+use Rattle.thread_engines.specs.declared.gates.Until.TheVariants.{Last}
 use Rattle.thread_engines.specs.Gates.{HasRoom, spacing_of}
 use Rattle.thread_engines.specs.Records.{RunRecord, RunRefused}
 use Rattle.thread_engines.specs.Recording.{events_of, events_text, record_text, ending_text, RecordGives, PrintsRecord, Records}
@@ -62,7 +63,7 @@ pub record IsRecorded (options : RunOptions) (input text : List ℕ) : Type 0 wh
   pub room : HasRoom net options
   pub prints : PrintsRecord options (lines_of input) net (output text DONE)
 
-not_inside : (options : RunOptions) (net : Plan) (text : List ℕ) → RunRefused options net (output text DONE) → ⊥
+not_inside : (options : RunOptions) (net : Plan) (text : List ℕ) → RunRefused options Last net (output text DONE) → ⊥
 not_inside options net text (inl w) = not_done text _ refl w.2
 not_inside options net text (inr board) = not_done text _ refl board.1
 
@@ -95,7 +96,7 @@ same_routers g w state agrees (k ∷ ks) known same = (agrees.routers k.router.n
 module _ (hold : HoldTimesFit) (feeds : LinesEndByLineFeeds) (one : OneNetwork) (spelt : SpeltIsNotRefused) (links : LinkedRoutersArePeers) (exists : EachNetworkHasASetting) (read : LinesAreReadAsTheySay)
     (again : CalledRunsArePlayed) (the_routers : MembersAreTheRouters) where
   module _ (options : RunOptions) (input text : List ℕ) (short : length text ≤ INPUT_LIMIT) (t : IsRecorded options input text) where
-    abbrev threads : RunRecord options t.net
+    abbrev threads : RunRecord options t.net options.snapshots
     threads = t.prints.threads
 
     abbrev events : List Event

@@ -158,7 +158,7 @@ module _ (one : One) (g : Setting) (state : RunState) (c : CollectorView) (are :
 
 -- ---- what is printed
 
-module _ (one : One) (routers : MembersAreTheRouters) {options : RunOptions} (net : Plan) (is : IsNetwork net) (has : HasSetting net) (r : RunRecord options net) where
+module _ (one : One) (routers : MembersAreTheRouters) {options : RunOptions} {taken : ℕ} (net : Plan) (is : IsNetwork net) (has : HasSetting net) (r : RunRecord options net taken) where
   abbrev c : CollectorView
   c = r.collector
 
@@ -224,6 +224,12 @@ module _ (one : One) (routers : MembersAreTheRouters) {options : RunOptions} (ne
         printed = printed ∙ ap (λ (t : List ℕ). output t DONE) (routes_are net.origins offers net.routers (all_recorded net s (made_for c) (map member_of c.members) members_are settled));
       }
 
-  pub record_gives : (out : Output) → CollectorGives net c options.snapshots out → PrintsStableRoutes r out ⊎ PrintsUnsettled r out
-  record_gives out (inl found) = inl (prints_routes found.0 out found.1 found.2)
-  record_gives out (inr none) = inr (record { unsettled = λ g e set. settles_on_none g e set none.0; printed = none.1 })
+  -- no snapshot is missing if none is wanted
+  none_missing : ((s : ℕ) → 0 < s → s ≤ options.snapshots → is_wanted net c s ≡ false) → (taken ≡ options.snapshots) ⊎ ((s : ℕ) × IsFirstWanted net c options.snapshots s) → taken ≡ options.snapshots
+  none_missing none (inl all) = all
+  none_missing none (inr found) = absurd (let no = none found.0 found.1.some found.1.few in let yes = found.1.wanted in let e : true ≡ false = sym yes ∙ no in cc)
+
+  pub record_gives : (out : Output) → (taken ≡ options.snapshots) ⊎ ((s : ℕ) × IsFirstWanted net c options.snapshots s) → CollectorGives net c options.snapshots out
+      → PrintsStableRoutes r out ⊎ PrintsUnsettled r out
+  record_gives out answered (inl found) = inl (prints_routes found.0 out found.1 found.2)
+  record_gives out answered (inr none) = inr (record { all = none_missing none.0 answered; unsettled = λ g e set. settles_on_none g e set none.0; printed = none.1 })

@@ -1,6 +1,6 @@
 -- The chores that the routers of a network are given if it runs in threads.
-use Rattle.std.specs.Prelude.{ℕ, zero, suc, ◌+◌, ◌-◌, ◌*◌, ◌/◌, ◌%◌, ◌<◌, ◌≤◌, ◌≡◌, ◌==◌, ◌||◌, nat_lt, cond, List, [], ◌∷◌, ◌++◌, length, map, filter, slice_index_or}
-use Rattle.std.specs.List.{All}
+use Rattle.std.specs.Prelude.{ℕ, zero, suc, ◌+◌, ◌-◌, ◌*◌, ◌/◌, ◌%◌, ◌<◌, ◌≤◌, ◌≡◌, ◌==◌, ◌||◌, nat_lt, min, cond, List, [], ◌∷◌, ◌++◌, length, map, filter, slice_index_or}
+use Rattle.std.specs.List.{All, AllByRecursion}
 use Rattle.ranked_policy.specs.Plans.{Plan}
 use Rattle.ranked_policy.specs.declared.network.NetRouter.{NetRouter}
 use Rattle.ranked_policy.specs.declared.network.Origin.{Origin}
@@ -9,7 +9,10 @@ use Rattle.router_model.specs.Settings.{peers}
 use Rattle.worker_loop.specs.declared.chore.Chore.{Chore}
 use Rattle.worker_loop.specs.declared.chore.Chore.TheVariants.{Turn, Command}
 use Rattle.net_workers.specs.declared.record.TheConstants.{MOST_TURNS}
+use Rattle.net_workers.specs.declared.record.Worked.{Worked}
 use Rattle.thread_engines.specs.declared.gates.RunGate.{RunGate}
+use Rattle.thread_engines.specs.declared.gates.Until.{Until}
+use Rattle.thread_engines.specs.declared.gates.Until.TheVariants.{Last, OneSettled}
 use Rattle.thread_engines.specs.declared.chores.RunOptions.{RunOptions}
 
 -- ---- the chores of one router
@@ -53,8 +56,32 @@ first_chores chore (suc n) = first_chores chore n ++ chore n ∷ []
 
 -- ---- gates
 
+-- what a gate is asked for: a script, and until when its snapshots are taken
+pub record Asked : Type 0 where
+  pub script : Script
+  pub until : Until
+
+abbrev pub asked_of : RunGate → Asked
+asked_of g = record { script = record { opening = g.opening.items; spacing = g.spacing; snapshots = g.snapshots }; until = g.until }
+
+-- the number of the last snapshot that is taken of so many; `last` counts only if they are taken until one has settled
+abbrev pub last_taken : Until → (snapshots last : ℕ) → ℕ
+last_taken Last snapshots last = snapshots
+last_taken OneSettled snapshots last = min snapshots last
+
+abbrev pub taken_by : RunGate → ℕ
+taken_by g = last_taken g.until g.snapshots g.last
+
+-- the script that a gate follows: the one that it is asked for, without the snapshots that are left out
 abbrev pub script_of : RunGate → Script
-script_of g = record { opening = g.opening.items; spacing = g.spacing; snapshots = g.snapshots }
+script_of g = record { opening = g.opening.items; spacing = g.spacing; snapshots = taken_by g }
+
+-- a gate leaves out no snapshot that it is asked for
+abbrev pub HasTakenAll : RunGate → Type 0
+HasTakenAll g = taken_by g ≡ g.snapshots
+
+abbrev pub HaveTakenAll : List (Worked RunGate) → Type 0
+HaveTakenAll workers = AllByRecursion (λ w. HasTakenAll w.gate) workers
 
 -- the chores that a gate gave so far
 abbrev pub given_by : RunGate → List Chore
@@ -65,6 +92,10 @@ abbrev pub scripts_for : Plan → (spacing snapshots : ℕ) → List NetRouter �
 scripts_for net spacing snapshots [] = []
 scripts_for net spacing snapshots (r ∷ rs) =
     record { opening = opening net r.asn; spacing = spacing; snapshots = snapshots } ∷ scripts_for net spacing 0 rs
+
+-- each gate is asked for one of these scripts
+abbrev pub asked_for : Until → List Script → List Asked
+asked_for until scripts = map (λ s. record { script = s; until = until }) scripts
 
 -- ---- options
 

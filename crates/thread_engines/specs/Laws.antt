@@ -24,7 +24,7 @@ ends_of g w numbers = (flat_map (λ s. snapshot_line s (outcome g.net w.made s))
 
 -- a world did the events of the record, none of which is refused or finds nothing to do. Its routers are where the
 -- threads left them, with the paths that they keep. This is its report, which says what the comments of the record say
-pub record EndsAsRecorded (options : RunOptions) (net : Plan) (r : RunRecord options net) (g : Setting) (out : Output) : Type 0 where
+pub record EndsAsRecorded (options : RunOptions) (net : Plan) (r : RunRecord options net options.snapshots) (g : Setting) (out : Output) : Type 0 where
   pub world : World
   pub plays : played g (new_world g) 0 (events_of r.gathered) ≡ Ok world
   pub did : world.run ≡ events_of r.gathered

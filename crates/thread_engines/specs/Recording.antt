@@ -18,6 +18,7 @@ use Rattle.schedule_text.specs.Routes.{router_text}
 use Rattle.net_text.specs.Comments.{comments_text}
 use Rattle.text_engines.specs.Engine.{limited}
 use Rattle.thread_engines.specs.declared.chores.RunOptions.{RunOptions}
+use Rattle.thread_engines.specs.declared.gates.Until.TheVariants.{Last}
 use Rattle.thread_engines.specs.Records.{RunRecord, RunPrints}
 use Rattle.text_engines.specs.Inputs.{LinesPrint}
 
@@ -60,15 +61,15 @@ record_output lines events ending = output (limited (record_text lines events ++
 -- ---- the text printed of a run
 
 -- the text of what some threads did and ended in. There is a record of them, in which each router has the script that
--- `run` gives it, and which is one of a run of the network that keeps the promises of runs
+-- `run` gives it, with all snapshots, and which is one of a run of the network that keeps the promises of runs
 pub record PrintsRecord (options : RunOptions) (lines : List Text) (net : Plan) (out : Output) : Type 0 where
-  pub threads : RunRecord options net
+  pub threads : RunRecord options net options.snapshots
   pub are_decided : AreDecided threads.collector threads.collector.decided
   pub printed : out ≡ record_output lines (events_of threads.gathered) (ending_text net threads.collector threads.workers)
 
 -- the text for the network that these lines spell
 abbrev pub RecordGives : RunOptions → List Text → Plan → Output → Type 0
-RecordGives options lines net out = RunPrints options net out (PrintsRecord options lines net out)
+RecordGives options lines net out = RunPrints options Last net out (PrintsRecord options lines net out)
 
 abbrev pub LinesRecord : RunOptions → List Text → Output → Type 0
 LinesRecord options lines out = LinesPrint (RecordGives options lines) lines out

@@ -23,6 +23,7 @@ use Rattle.text_engines.specs.Checking.{at_prefix}
 use Rattle.text_engines.specs.Inputs.{LinesPrint}
 use Rattle.schedule_text.specs.Routes.{router_text, recorded, parts_text}
 use Rattle.thread_engines.specs.declared.chores.RunOptions.{RunOptions}
+use Rattle.thread_engines.specs.declared.gates.Until.TheVariants.{OneSettled}
 use Rattle.thread_engines.specs.Records.{RunRecord, RunPrints}
 
 -- the text printed if no snapshot is wanted
@@ -47,7 +48,7 @@ IsPassedOver g state s =
     (ComesOut g state s Settled → ⊥)
     ⊎ ((parts : ℕ → RouterPart) × HaveMade g state s parts × (EveryOriginOriginates g.net parts → ⊥))
 
-module _ {options : RunOptions} {net : Plan} (r : RunRecord options net) where
+module _ {options : RunOptions} {net : Plan} {taken : ℕ} (r : RunRecord options net taken) where
   -- the record of the threads, as a run of the network
   abbrev pub RunOfRecord : Setting → Type 0
   RunOfRecord g = IsRunOfThreads g (passed_in r.ways) r.workers r.gathered
@@ -81,7 +82,9 @@ module _ {options : RunOptions} {net : Plan} (r : RunRecord options net) where
     pub stable : (q : PrefixView) → names net.origins q ≡ true → IsStable (at_prefix net q) (λ u. (parts u).kept q)
     pub printed : out ≡ output (parts_routes net parts) DONE
 
+  -- each snapshot was taken, and none is settled with every origin originating
   pub record PrintsUnsettled (out : Output) : Type 0 where
+    pub all : taken ≡ options.snapshots
     pub unsettled : (g : Setting) → g.net ≡ net → IsSetting g → SettlesOnNone g
     pub printed : out ≡ unsettled_output
 
@@ -91,8 +94,9 @@ module _ {options : RunOptions} {net : Plan} (r : RunRecord options net) where
 abbrev pub HasSetting : Plan → Type 0
 HasSetting net = (g : Setting) × (g.net ≡ net) × IsSetting g
 
+-- fewer snapshots than the options name are taken only if the routes of one are printed
 abbrev pub RunGives : RunOptions → Plan → Output → Type 0
-RunGives options net out = RunPrints options net out ((r : RunRecord options net) × (PrintsStableRoutes r out ⊎ PrintsUnsettled r out))
+RunGives options net out = RunPrints options OneSettled net out ((taken : ℕ) × (r : RunRecord options net taken) × (PrintsStableRoutes r out ⊎ PrintsUnsettled r out))
 
 abbrev pub LinesRun : RunOptions → List Text → Output → Type 0
 LinesRun options lines out = LinesPrint (RunGives options) lines out

@@ -2,9 +2,9 @@
 
 ghost use Rattle.std.specs.Prelude.{◌≡◌, ◌<◌, ◌==◌, [], length, map, count_by, IfOk, MatchOption};
 ghost use Rattle.std.specs.List.{AllByRecursion};
-ghost use Rattle.thread_engines.specs.Gates.{opening, given_by, script_of, scripts_for, spacing_of, HasRoom};
+ghost use Rattle.thread_engines.specs.Gates.{opening, asked_for, asked_of, given_by, scripts_for, spacing_of, HasRoom};
 
-use crate::gates::RunGate;
+use crate::gates::{RunGate, Until};
 use net_workers::{Chore, MOST_TURNS};
 use ranked_policy::{Asn, Network};
 use router_model::Command;
@@ -81,7 +81,7 @@ pub(crate) fn spacing(network: &Network, options: &RunOptions) -> Option<u32>
 /// The gates of a network's routers, rising, for a run of the network in threads: each gives the chores of its
 /// router's opening, a `Start` for each peer and an `Originate` for each prefix of which it is the origin, and
 /// then Turns. The least router also takes the snapshots from 1 to the last, one each `spacing` chores behind
-/// its opening; the others take none.
+/// its opening, until the last or until one has settled; the others take none.
 ///
 /// It answers an error if memory is refused.
 pub(crate) fn new_gates(
@@ -89,18 +89,20 @@ pub(crate) fn new_gates(
     network: &Network,
     spacing: u32,
     snapshots: u32,
+    until: Until,
 ) -> Result<Vec<RunGate>, AllocError>
     requires { 0 < spacing }
     ensures many { IfOk result (λ gates. length gates.items ≡ length network.now.routers) }
     ensures nothing { IfOk result (λ gates. AllByRecursion (λ gate. given_by gate ≡ []) gates.items) }
-    ensures script { IfOk result
-        (λ gates. map script_of gates.items ≡ scripts_for network.now spacing snapshots network.now.routers) }
+    ensures asked { IfOk result
+        (λ gates. map asked_of gates.items
+        ≡ asked_for until (scripts_for network.now spacing snapshots network.now.routers)) }
 {
     let mut gates = Vec::new(alloc);
     let mut left = snapshots;
     for router in network.routers() {
         let chores = opening(alloc, network, router.asn)?;
-        gates.push(RunGate::new(chores, spacing, left))?;
+        gates.push(RunGate::new(chores, spacing, left, until))?;
         left = 0;
     }
     Ok(gates)

@@ -4,7 +4,8 @@
 //!
 //! [`run_network`] runs a network so for [`RunOptions`], at the word of a [`RunGate`] for each router. The contract of
 //! `run` is that of [`run::network_output`]: the routes of the first snapshot that is settled with every origin
-//! originating, or `unsettled`; [`run::settled_output`] makes that text of a collector. The contract of `record` is that
+//! originating, behind which it takes no more ([`Until`]), or `unsettled`; [`run::settled_output`] makes that text of a
+//! collector. The contract of `record` is that
 //! of [`record::network_output`]: what the threads did, as a network and a schedule for `bgpnet play`, and behind it,
 //! as comments, what they ended in; [`record::record_output`] makes that text of a record, and [`laws`] says that `play`
 //! leads where the threads ended, and prints what the comments say. `command_line::run_thread_task` reads the network
@@ -21,5 +22,5 @@ pub mod record;
 pub mod run;
 
 pub use chores::RunOptions;
-pub use gates::RunGate;
+pub use gates::{RunGate, Until};
 pub use network::run_network;

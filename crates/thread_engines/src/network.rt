@@ -1,15 +1,16 @@
 //! A network that runs in threads as `bgpnet run` and `bgpnet record` have it run, and the text printed where it does
 //! not.
 
-ghost use Rattle.std.specs.Prelude.{◌≡◌, ◌≢◌, IfOk, IfErr, OnOk};
+ghost use Rattle.std.specs.Prelude.{◌≡◌, ◌≢◌, None, IfOk, IfErr, OnOk};
 ghost use Rattle.net_workers.specs.declared.record.RunFault.TheVariants.{Memory};
+ghost use Rattle.net_workers.specs.Faults.{EndedSo};
 ghost use Rattle.net_workers.specs.Handed.{JournalsOf};
 ghost use Rattle.text_engines.specs.Decoding.{output};
-ghost use Rattle.thread_engines.specs.Gates.{HasRoom, given_by, script_of};
+ghost use Rattle.thread_engines.specs.Gates.{HasRoom, asked_for, asked_of, given_by};
 ghost use Rattle.thread_engines.specs.Records.{EndsIn, IsFaultOfRun, faulty, run_scripts};
 
 use crate::chores::{RunOptions, new_gates, spacing};
-use crate::gates::RunGate;
+use crate::gates::{RunGate, Until};
 use net_workers::{Journals, Limits, RunFault, run_journals};
 use ranked_policy::Network;
 use std::alloc::{AllocError, Global};
@@ -18,7 +19,8 @@ use std::thread::Threads;
 use text_engines::refused_output;
 
 /// Runs a network in threads: each router starts its session with each peer, originates each prefix of which it is
-/// the origin, and goes on in turns; the least router takes the snapshots of the options, evenly spaced.
+/// the origin, and goes on in turns; the least router takes the snapshots of the options, evenly spaced, until the
+/// last or until one has settled.
 ///
 /// Refused with [`RunFault::BadLimits`] if the chores leave no room for the openings and the snapshots, before anything
 /// is done; else as [`run_journals`] refuses.
@@ -26,6 +28,7 @@ pub fn run_network<'a, R>(
     rt: &R,
     alloc: Global,
     options: &RunOptions,
+    until: Until,
     network: &'a Network,
 ) -> Result<Journals<'a, RunGate>, RunFault>
 where
@@ -33,15 +36,20 @@ where
     ensures room { OnOk result (HasRoom network.now options.now) }
     ensures refused { IfErr result (IsFaultOfRun options.now network.now) }
     // The fault of a worker is that of the least router that has one, of some routers with these scripts.
-    ensures fault { IfErr result (EndsIn options.now network.now) }
+    ensures fault { IfErr result (EndsIn options.now until network.now) }
     // Router by router, its script is its opening and its turns, and the least router takes the snapshots.
     ensures ran { IfOk result
-        (JournalsOf given_by script_of network.now options.now.turns (run_scripts options.now network.now)) }
+        (JournalsOf given_by asked_of network.now options.now.turns
+        (asked_for until (run_scripts options.now network.now))) }
+    // Some workers with these scripts have ended without a fault.
+    ensures ended { OnOk result
+        (EndedSo given_by asked_of network.now options.now.turns
+        (asked_for until (run_scripts options.now network.now)) None) }
 {
     let Some(spacing) = spacing(network, options) else {
         return Err(RunFault::BadLimits);
     };
-    let gates = new_gates(alloc, network, spacing, options.snapshots)?;
+    let gates = new_gates(alloc, network, spacing, options.snapshots, until)?;
     let limits = Limits {
         turns: options.turns,
     };

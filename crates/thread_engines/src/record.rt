@@ -8,6 +8,7 @@ ghost use Rattle.thread_engines.specs.Recording.{events_of, ending_text, record_
 mod text;
 
 use crate::chores::RunOptions;
+use crate::gates::Until;
 use crate::network::{fault_output, run_network};
 use crate::record::text::{ending_text, record_text};
 use net_text::put_comments;
@@ -43,10 +44,10 @@ pub fn record_output<G>(
     Ok((text, DONE))
 }
 
-/// Runs a network of these lines in threads as `bgpnet run` does, and answers what they did as a schedule: the
-/// network's lines, the line `schedule`, and each event as an order, by its stamp, then by its router, with comments
-/// behind them of how the snapshots came out and of the routes that the routers keep in the end; or why the run was
-/// refused; and the status. Where that is longer than an input may be a comment says so. It answers an error where
+/// Runs a network of these lines in threads as `bgpnet run` does, but with all snapshots, and answers what they did as a
+/// schedule: the network's lines, the line `schedule`, and each event as an order, by its stamp, then by its router, with
+/// comments behind them of how the snapshots came out and of the routes that the routers keep in the end; or why the run
+/// was refused; and the status. Where that is longer than an input may be a comment says so. It answers an error where
 /// memory is refused.
 pub fn network_output<R>(
     rt: &R,
@@ -60,7 +61,7 @@ where
     ensures { IfOk result
         (λ printed. RecordGives options.now (lines_of lines.now) network.now (output printed.0.items printed.1)) }
 {
-    match run_network(rt, alloc, options, network) {
+    match run_network(rt, alloc, options, Until::Last, network) {
         Ok(journals) => {
             let record = journals.gather(alloc)?;
             let _ = record.collector.decided();

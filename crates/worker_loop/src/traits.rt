@@ -41,6 +41,14 @@ pub trait Gate {
         0
     }
 
+    /// Is told that a snapshot has settled, before the next chore of a worker that was given `turn` chores so far. It
+    /// gives no chore. A gate without a body of its own goes on as before.
+    fn on_settled(&mut self, _turn: u32)
+        requires { _turn ≡ length (given self.old) }
+        ensures given { given self.new ≡ given self.old }
+        ensures script { script self.new ≡ script self.old }
+    {}
+
     /// Gives the next chores of a worker that was given `turn` chores so far, at most so many, as long as they are
     /// Turns, and answers how many it gave. A gate that does not say so gives none: then [`Gate::next`] gives each.
     fn next_turns(&mut self, _turn: u32, _most: u32) -> u32
@@ -153,6 +161,12 @@ pub trait Desk {
     /// the desk can say: the worker then passes over Turns in which its router has nothing to do. A desk without a body
     /// of its own lets nobody know, never waits, and answers `false`.
     fn pause<R: Wait>(&self, _rt: &R, _board: &Self::Board, _between: &Between<'_>) -> bool {
+        false
+    }
+
+    /// Whether a snapshot has settled at the board with every origin originating its prefix, as far as the desk can say.
+    /// The worker's gate is told so before each chore. A desk without a body of its own answers `false`.
+    fn has_settled(&self, _board: &Self::Board) -> bool {
         false
     }
 }

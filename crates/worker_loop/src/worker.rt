@@ -102,7 +102,7 @@ impl<'a, L: Pipes, D: Desk, G: Gate> Worker<'a, L, D, G> {
     {
         let mut given = 0;
         'chores: while given < turns {
-            let chore = self.next_chore(rt, given)?;
+            let chore = self.next_chore(rt, board, given)?;
             given += 1;
             let passes = self.one(rt, board, &chore, given, turns)?;
             if let Chore::Stop = chore {

@@ -27,6 +27,10 @@ const NARROW: &str =
 
 const WIDE: &str = "router 1 10.0.0.1\nrouter 2 10.0.0.2\nlink 1 2\norigin 1 10.1.0.0/16\n";
 
+// Router 2 is the origin of a prefix, which its gate does not have it originate.
+const WITHHELD: &str =
+    "router 1 10.0.0.1\nrouter 2 10.0.0.2\nlink 1 2\norigin 1 10.1.0.0/16\norigin 2 10.2.0.0/16\n";
+
 // The routes of both.
 const BOTH: &str = "route 1 10.1.0.0/16 1\nroute 2 10.1.0.0/16 2-1\n";
 
@@ -50,7 +54,7 @@ struct Asked {
 }
 
 // A gate that holds the chores of a script back until the other gate has been asked, and gives Stop
-// from there on where it is not asked in time.
+// from there on where it is not asked in time. It notes whether it is told that a snapshot has settled.
 #[derive(Drop)]
 struct HeldGate<'a> {
     own: &'a AtomicU64,
@@ -58,6 +62,7 @@ struct HeldGate<'a> {
     holds: Holds,
     script: ScriptGate,
     stops: u64,
+    is_told: bool,
 }
 
 impl HeldGate<'_> {
@@ -95,6 +100,10 @@ impl Gate for HeldGate<'_> {
         }
         self.script.next(rt, turn)
     }
+
+    fn on_settled(&mut self, _turn: u32) {
+        self.is_told = true;
+    }
 }
 
 // The gates of both routers. They start, router 1 originates and takes a snapshot at turn 200, and both
@@ -125,6 +134,7 @@ fn two_gates<'a>(
         holds,
         script: one,
         stops: 0,
+        is_told: false,
     })?;
     gates.push(HeldGate {
         own: &asked.other,
@@ -132,6 +142,7 @@ fn two_gates<'a>(
         holds,
         script: other,
         stops: 0,
+        is_told: false,
     })?;
     Ok(gates)
 }
@@ -176,46 +187,62 @@ fn gate_meeting(rt: HostRuntime) -> Result<(), Fail> {
     Ok(())
 }
 
-// Whether what is printed of a run in lockstep is the routes of both.
-fn settles_in_lockstep<R: Threads + Wait + Sync>(
+// Whether this is printed of a run in lockstep, and its gates were told that a snapshot has settled, or were not.
+fn prints_in_lockstep<R: Threads + Wait + Sync>(
     rt: &R,
     alloc: Global,
     pair: &Pair,
+    wanted: &str,
+    is_told: bool,
 ) -> Result<bool, AllocError> {
     let asked = new_asked();
     let gates = two_gates(alloc, &asked, Holds::Each, pair.prefix)?;
     let limits = Limits { turns: 1000 };
     match run_journals(rt, alloc, &pair.network, gates, limits) {
         Ok(journals) => {
+            for worked in &journals.workers {
+                if worked.gate.is_told != is_told {
+                    return Ok(false);
+                }
+            }
             let (text, status) = settled_output(alloc, &pair.network, &journals.collector, 1)?;
-            Ok((text.as_slice(), status) == (BOTH.as_bytes(), 0))
+            Ok((text.as_slice(), status) == (wanted.as_bytes(), 0))
         }
         Err(_) => Ok(false),
     }
 }
 
-// Workers in lockstep take what their peers put, and a snapshot settles.
+// Workers in lockstep take what their peers put, and a snapshot settles, of which their gates are told.
 #[test]
 fn gate_lockstep(rt: HostRuntime) -> Result<(), Fail> {
     for text in [WIDE, NARROW] {
         let pair = read_pair(rt.alloc(), text)?;
-        assert!(rt; settles_in_lockstep(&rt, rt.alloc(), &pair)?);
+        assert!(rt; prints_in_lockstep(&rt, rt.alloc(), &pair, BOTH, true)?);
     }
+    Ok(())
+}
+
+// A snapshot settles in which an origin does not originate: no gate is told of it.
+#[test]
+fn gate_lockstep_without_a_prefix(rt: HostRuntime) -> Result<(), Fail> {
+    let pair = read_pair(rt.alloc(), WITHHELD)?;
+    assert!(rt; prints_in_lockstep(&rt, rt.alloc(), &pair, "unsettled\n", false)?);
     Ok(())
 }
 
 // How often each network is run.
 const RUNS: u32 = 10;
 
-// Whether `bgpnet run`, with one snapshot, prints the routes of both.
+// Whether `bgpnet run`, with so many snapshots, prints the routes of both.
 fn settles<R: Threads + Wait + Sync>(
     rt: &R,
     alloc: Global,
     network: &Network,
+    snapshots: u32,
 ) -> Result<bool, AllocError> {
     let options = RunOptions {
         turns: 2000,
-        snapshots: 1,
+        snapshots,
     };
     let (text, status) = network_output(rt, alloc, &options, network)?;
     Ok((text.as_slice(), status) == (BOTH.as_bytes(), 0))
@@ -227,8 +254,8 @@ fn each_run_settles(rt: HostRuntime) -> Result<(), Fail> {
     for text in [WIDE, NARROW] {
         let pair = read_pair(rt.alloc(), text)?;
         for run in 0..RUNS {
-            let _ = run;
-            assert!(rt; settles(&rt, rt.alloc(), &pair.network)?);
+            let snapshots = if run % 2 == 0 { 1 } else { 20 };
+            assert!(rt; settles(&rt, rt.alloc(), &pair.network, snapshots)?);
         }
     }
     Ok(())

@@ -16,7 +16,7 @@ use std::test::Fail;
 use std::thread::Threads;
 use text_engines::{INPUT_LIMIT, put_limit};
 use thread_engines::record::record_output;
-use thread_engines::{RunOptions, run_network};
+use thread_engines::{RunOptions, Until, run_network};
 use world_core::World;
 
 // Two routers and a link; and DISAGREE, where 2 and 3 prefer the way through each other.
@@ -92,7 +92,7 @@ fn run_plays_back<R: Threads + Wait + Sync>(
         turns: 1000,
         snapshots: 5,
     };
-    match run_network(rt, alloc, &options, network) {
+    match run_network(rt, alloc, &options, Until::Last, network) {
         Ok(journals) => plays_back(alloc, network, &journals.gather(alloc)?),
         Err(_) => Ok(false),
     }

@@ -60,7 +60,7 @@ fn is_wanted(network: &Network, collector: &Collector, number: u32) -> bool
 }
 
 // The first snapshot from 1 to the last that came out settled, with every origin originating.
-fn first_wanted(network: &Network, collector: &Collector, last: u32) -> Option<u32>
+pub(super) fn first_wanted(network: &Network, collector: &Collector, last: u32) -> Option<u32>
     ensures { MatchOption result ((s : ℕ) → 0 < s → s ≤ last → is_wanted network.now collector.now s ≡ false)
         (IsFirstWanted network.now collector.now last) }
 {

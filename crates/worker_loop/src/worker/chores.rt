@@ -27,8 +27,13 @@ impl<'a, L: Pipes, D: Desk, G: Gate> Worker<'a, L, D, G> {
     ghost use Rattle.worker_loop.specs.Ending.{EndsCall, EndsMeet, EndsMeeting, EndsTurn, EndsChore};
     ghost use Rattle.std.specs.Prelude.{◌≤◌, length, vec_capacity, [], ◌∷◌, ◌++◌};
 
-    // Gets the next chore, and writes it down.
-    pub(super) fn next_chore<R: Wait>(&mut self, rt: &R, turn: u32) -> Result<Chore, WorkerFault>
+    // Gets the next chore, and writes it down. The gate is told before if a snapshot has settled.
+    pub(super) fn next_chore<R: Wait>(
+        &mut self,
+        rt: &R,
+        board: &D::Board,
+        turn: u32,
+    ) -> Result<Chore, WorkerFault>
         requires turn { turn ≡ length (G.given self.old.gate) }
         ensures given { IfOk result (λ chore. G.given self.new.gate ≡ G.given self.old.gate ++ chore ∷ []) }
         ensures chores { IfOk result
@@ -41,6 +46,9 @@ impl<'a, L: Pipes, D: Desk, G: Gate> Worker<'a, L, D, G> {
         ensures full { OnErr result (vec_capacity self.new.journal.chores ≤ length self.new.journal.chores.items) }
     {
         self.journal.chores.reserve(1)?;
+        if self.desk.has_settled(board) {
+            self.gate.on_settled(turn);
+        }
         let chore = self.gate.next(rt, turn);
         write_down(&mut self.journal.chores, &chore);
         Ok(chore)

@@ -1,5 +1,5 @@
 use Rattle.std.proofs.Common.{ap, map, ◌∙◌}
-use Rattle.net_workers.proofs.Faults.{err_so, is_inside, fault_is, journals_are}
+use Rattle.net_workers.proofs.Faults.{err_so, ok_so, is_inside, fault_is, journals_are}
 use Rattle.net_workers.proofs.net.run_within.Goals as goal
 
 pub journals_of-requires : goal.journals_of-requires
@@ -19,3 +19,7 @@ returns-clause-ran g c =
     let j = c.journals_of.ensures in
     journals_are g.G.Gate.given g.G.Gate.script c.args.network.now c.args.turns (map g.G.Gate.script c.args.gates.items) c.in_ok-workers.workers.items c.journals_of.result
     c.in_ok-workers.ensures.script j.worked j.ways (j.recorded c.args.turns c.in_ok-workers.ensures.ended) j.promises
+
+pub returns-clause-ended : goal.returns-clause-ended
+returns-clause-ended g c =
+    ok_so c.journals_of.result _ _ (λ quiet. (c.in_ok-workers.workers.items, c.in_ok-workers.ensures.ended, c.in_ok-workers.ensures.script, quiet)) c.journals_of.ensures.none

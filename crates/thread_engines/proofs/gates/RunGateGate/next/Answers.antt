@@ -1,4 +1,4 @@
-use Rattle.std.proofs.Common.{◌∙◌, ap, List}
+use Rattle.std.proofs.Common.{◌∙◌, ℕ, ap, List}
 use Rattle.worker_loop.specs.declared.chore.Chore.{Chore}
 use Rattle.thread_engines.specs.Gates.{script_of, chore_at}
 use Rattle.thread_engines.proofs.GateLemmas.{next_is}
@@ -8,4 +8,5 @@ pub returns-clause-given : goal.returns-clause-given
 returns-clause-given g c =
     let x = c.args.self.now in
     next_is (chore_at (script_of x)) x.count c.args.turn _ _ c.requires c.from.ensures
-    (c.chore_at.ensures ∙ ap (λ (cs : List Chore). chore_at (record { opening = cs; spacing = x.spacing; snapshots = x.snapshots }) c.args.turn) c.as_slice.ensures.value)
+    (c.chore_at.ensures ∙ ap (λ (cs : List Chore). chore_at (record { opening = cs; spacing = x.spacing; snapshots = c.taken.result }) c.args.turn) c.as_slice.ensures.value
+    ∙ ap (λ (k : ℕ). chore_at (record { opening = x.opening.items; spacing = x.spacing; snapshots = k }) c.args.turn) c.taken.ensures)

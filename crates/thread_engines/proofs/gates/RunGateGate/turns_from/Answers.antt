@@ -9,4 +9,5 @@ returns c = λ i below.
     let x = c.args.self.now in
     let many : c.len-opening.result ≡ length x.opening.items = omega (arith, c.len-opening.ensures) in
     behind_still (script_of x) c.args.turn i (omega (arith, c.if-at-opening.false, many))
-    (subst (λ (n : ℕ). later_chore x.spacing x.snapshots ((c.args.turn - n) + i) ≡ Turn) many (c.turns_from.ensures i below))
+    (subst (λ (k : ℕ). later_chore x.spacing k ((c.args.turn - length x.opening.items) + i) ≡ Turn) c.taken.ensures
+    (subst (λ (n : ℕ). later_chore x.spacing c.taken.result ((c.args.turn - n) + i) ≡ Turn) many (c.turns_from.ensures i below)))
