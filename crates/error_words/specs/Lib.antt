@@ -8,4 +8,5 @@ pub mod Spelling
 pub mod Places
 pub mod Reasons
 pub mod Advice
+pub mod Warnings
 pub mod Saying

@@ -1,6 +1,7 @@
 -- What the program says on the standard error: lines that each begin with its name.
-use Rattle.std.specs.Prelude.{ℕ, zero, suc, ◌==◌, ◌||◌, ◌&&◌, not, Bool, [], ◌++◌, Option, None, Some, unwrap_or, codes, decimal, if◌then◌else◌}
-use Rattle.text_engines.specs.declared.status.TheConstants.{REFUSED, USAGE, STOPPED}
+use Rattle.std.specs.Prelude.{ℕ, zero, suc, ◌≡◌, ◌==◌, ◌||◌, ◌&&◌, not, Bool, false, [], ◌++◌, Option, None, Some, unwrap_or, codes, decimal, if◌then◌else◌}
+use Rattle.std.specs.Bool.{MatchBool}
+use Rattle.text_engines.specs.declared.status.TheConstants.{REFUSED, USAGE, MEMORY, STOPPED}
 use Rattle.net_text.specs.Lexing.{Text, words_of, same, begins_with}
 use Rattle.net_text.specs.Printing.{line}
 use Rattle.text_engines.specs.declared.transfer.TheConstants.{INPUT_LIMIT}
@@ -11,6 +12,7 @@ use Rattle.error_words.specs.Faults.{fault_of}
 use Rattle.error_words.specs.Reasons.{reason}
 use Rattle.error_words.specs.Advice.{advice}
 use Rattle.error_words.specs.Refusals.{Refused, refusal_in, without_mark, line_at}
+use Rattle.error_words.specs.Warnings.{network_lines, IsWarned}
 use Rattle.error_words.specs.Hints.{hint_text, hint_of_line, hint_of_hex, has}
 
 -- ---- refusals
@@ -106,9 +108,20 @@ bound_of word = if same word (codes "decode") then 512 else INPUT_LIMIT
 
 -- ---- all that is said
 
+-- the words on how a run ended
 abbrev pub said : End → Text
 said end =
     if end.status == STOPPED then stopped_said end.read_failed
     else if end.status == REFUSED then refused_said end.last.now end.input.now
     else if end.status == USAGE then words_said end.word.now end.name.now
     else []
+
+-- a network was answered, by a word that asks for its stable assignments or its dispute wheels
+abbrev pub answers_network : End → Bool
+answers_network end =
+    if (end.status == REFUSED) || (end.status == USAGE) || (end.status == MEMORY) || (end.status == STOPPED) then false
+    else same end.word.now (codes "stable") || same end.word.now (codes "safe")
+
+-- the warnings of a network that was answered, else the words on how the run ended
+abbrev pub IsSaid : End → Text → Type 0
+IsSaid end text = MatchBool (answers_network end) (IsWarned (network_lines end.input.now) text) (text ≡ said end)

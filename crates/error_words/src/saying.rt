@@ -4,7 +4,7 @@ ghost use Rattle.std.specs.Prelude.{◌≡◌, ◌++◌, Some, OnOk, IfOk};
 ghost use Rattle.std.specs.Option.{option_copied};
 ghost use Rattle.error_words.specs.Hints.{hint_of_hex};
 ghost use Rattle.error_words.specs.Showing.{remark_text};
-ghost use Rattle.error_words.specs.Saying.{place_text, found_text, refusal_text, hint_said, no_hex, line_said, named_said, refused_said, stopped_said, said, first_line};
+ghost use Rattle.error_words.specs.Saying.{place_text, found_text, refusal_text, hint_said, no_hex, line_said, named_said, refused_said, stopped_said, said, first_line, answers_network, IsSaid};
 
 use crate::advice::put_advice;
 use crate::faults::fault_of;
@@ -13,10 +13,11 @@ use crate::reasons::put_reason;
 use crate::refusals::{line_at, refusal_of};
 use crate::showing::{put_remark, put_shown};
 use crate::usage::put_words;
+use crate::warnings::input_warnings;
 use net_text::lexing::same;
 use net_text::put_len;
 use std::alloc::{AllocError, Global};
-use text_engines::status::{REFUSED, STOPPED, USAGE};
+use text_engines::status::{MEMORY, REFUSED, STOPPED, USAGE};
 
 /// How a run of the program ended, and what is known of it.
 #[derive(Clone, Copy)]
@@ -175,11 +176,25 @@ fn put_said(alloc: Global, out: &mut Vec<u8>, end: &End) -> Result<(), AllocErro
     }
 }
 
-/// The words on how a run ended: what a refusal means, how an input is given, or what failed; no
-/// word if it was done. It is refused only for want of memory.
-pub fn said(alloc: Global, end: &End) -> Result<Vec<u8>, AllocError>
-    ensures { IfOk result (λ text. text.items ≡ said end.now) }
+// Whether a network was answered, by a word that asks for its stable assignments or its dispute wheels.
+fn answers_network(end: &End) -> bool
+    ensures { result ≡ answers_network end.now }
 {
+    match end.status {
+        REFUSED | USAGE | MEMORY | STOPPED => false,
+        _ => same(end.word, b"stable") || same(end.word, b"safe"),
+    }
+}
+
+/// The words on how a run ended: what a refusal means, how an input is given, or what failed; of a network that `stable`
+/// or `safe` answered, which rules are for nothing and which of their paths can never come; else no word if it was
+/// done. It is refused only for want of memory.
+pub fn said(alloc: Global, end: &End) -> Result<Vec<u8>, AllocError>
+    ensures { IfOk result (λ text. IsSaid end.now text.items) }
+{
+    if answers_network(end) {
+        return input_warnings(alloc, end.input);
+    }
     let mut text = Vec::new(alloc);
     put_said(alloc, &mut text, end)?;
     Ok(text)
