@@ -95,7 +95,7 @@ same_place places one other size c d =
 
 module _ (p : Problem) (is : IsInstance p) (law : StableIsFitting) (seats : List Seat) (at : map (λ (s : Seat). s.router) seats ≡ numbers p.net.routers) (each : All (IsSeat p) seats)
     (ways : List Way) (over : AreWaysOf p.net.links seats ways) (sets : List ℕ) (values : AreValues seats sets) (now : List ℕ) (narrows : Narrows ways sets now)
-    (levels : List ℕ) (groups : List Group) (led : AreLed ways sets now levels groups) (parts : List Component) (of : ArePartsOf seats levels groups parts) (alive : AllSome now) where
+    (ends : List Way) (levels : List ℕ) (groups : List Group) (led : AreLed ways ends sets now levels groups) (parts : List Component) (of : ArePartsOf seats levels groups parts) (alive : AllSome now) where
   size_now : length now ≡ length seats
   size_now = narrows.size ∙ values.0
 
