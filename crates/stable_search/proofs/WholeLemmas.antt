@@ -312,5 +312,5 @@ module _ (p : Problem) (is : IsInstance p) (law : StableIsFitting) (seats : List
         let o = led.needed (any.0, group.0, group.1.0, group.1.1, l) in
         let part = part_at o.0 o.2 in
         (o.0, part.0, part.1.0, part.1.1, open_part o.0 o.1 part.0 (o.2, o.3) part.1 o.4));
-    among = among p is law seats at each ways over sets values now narrows ends levels groups led found.parts of alive;
+    among = among p is law seats at each ways over sets values now narrows ends ends_of levels groups led found.parts of alive;
   }
