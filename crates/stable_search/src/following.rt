@@ -464,9 +464,10 @@ fn least_raised(
     let mut least = None;
     let mut fewest = usize::MAX;
     for (place, set) in sets.iter().enumerate() {
-        if levels[place] == 0 && set.count_ones() > 1 {
+        if levels[place] == 0 && set.count_ones() > 1 && !stuck[place] {
             let raised = raised_behind(alloc, ends, moved, levels, level, place)?;
             match count_at(raised.as_slice(), level, stuck) {
+                Some(1) => return Ok(Some(raised)),
                 Some(count) if count < fewest => {
                     fewest = count;
                     least = Some(raised);
@@ -551,6 +552,9 @@ pub(crate) fn levels_of(alloc: Global, ends: &[Way], sets: &[u64]) -> Result<Vec
 {
     let count = sets.len();
     let mut levels = no_levels(alloc, count)?;
+    if are_single(sets) {
+        return Ok(levels);
+    }
     let moved = all_moved(alloc, ends, sets)?;
     let mut stuck = none_stuck(alloc, count)?;
     for step in 0..count {
