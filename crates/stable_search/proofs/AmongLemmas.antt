@@ -1,29 +1,30 @@
 -- The choices of a part are those of its routers' paths that fit together.
-use Rattle.std.proofs.Common.{◌≡◌, ℕ, zero, suc, ◌<◌, ◌+◌, ◌==◌, Bool, cond, List, [], ◌∷◌, length, get_or, map, refl, sym, ap, subst, ◌∙◌, eq-eqb, ne_eqb, arith, inl, inr}
+use Rattle.std.proofs.Common.{◌≡◌, ◌≢◌, ℕ, zero, suc, ◌<◌, ◌+◌, ◌==◌, Bool, true, false, cond, List, [], ◌∷◌, length, get_or, map, refl, sym, ap, subst, ◌∙◌, eq-eqb, ne_eqb, arith, inl, inr}
 use Rattle.std.specs.List.{All, AllPairs, Contains}
 use Rattle.std.specs.Int.{bit_at}
-use Rattle.std.proofs.lemmas.Bool.{cases_eq, cases_lt}
+use Rattle.std.proofs.lemmas.Bool.{cases_eq, cases_lt, both_ways}
 use Rattle.std.proofs.lemmas.List.{length-map, get_or_default}
 use Rattle.std.proofs.lemmas.List.Elements.{Contains-get_or}
-use Rattle.ranked_policy.specs.Plans.{IsRouter, Linked, numbers}
+use Rattle.ranked_policy.specs.Plans.{IsNetwork, IsRouter, Linked, numbers}
 use Rattle.ranked_policy.proofs.OneTable.{one_table}
 use Rattle.ranked_policy.proofs.Reached.{linked_back}
-use Rattle.ranked_policy.specs.Policies.{Table, IsTableOf}
+use Rattle.ranked_policy.specs.Policies.{Table, IsTableOf, Originates}
 use Rattle.stable_paths.specs.Stable.{Problem, IsInstance, IsStable}
 use Rattle.stable_search.specs.declared.every.Component.{Component}
 use Rattle.stable_search.specs.declared.group.Group.{Group}
 use Rattle.stable_search.specs.declared.seat.Seat.{Seat}
 use Rattle.stable_search.specs.declared.way.Way.{Way}
 use Rattle.stable_search.specs.Counting.{SeveralHaveNone}
-use Rattle.stable_search.specs.Every.{choices_of, HasChoice, ChooseAmong}
+use Rattle.stable_search.specs.Every.{choices_of, HasChoice, AreChoices, Disputes, Trails, ChooseAmong}
 use Rattle.stable_search.specs.Fits.{MayStand, FitsAt, FitsAmong, FitTogether, StableIsFitting}
 use Rattle.stable_search.specs.Groups.{at_places, AreOwn, AreValues, ArePartsOf, ArePlaces, FitsBetween, IsGroup, IsPartOf}
 use Rattle.stable_search.specs.Led.{AreLed}
+use Rattle.stable_search.specs.Parting.{IsFree}
 use Rattle.stable_search.specs.Picks.{AllSome, FitsWay, Has, Narrows}
-use Rattle.stable_search.specs.Seats.{IsSeat, FitsBoth, FitsEnd, StandsAt, IsWayOf, AreWaysOf}
+use Rattle.stable_search.specs.Seats.{IsSeat, FitsBoth, FitsEnd, StandsAt, IsWayOf, AreWaysOf, IsEndOf, AreEndsOf}
 use Rattle.stable_search.proofs.ChoiceLemmas.{as_many}
 use Rattle.stable_search.proofs.CombineLemmas.{path_in, have_choice, either_path, same_in}
-use Rattle.stable_search.proofs.EveryLemmas.{Picked, picked, one_value, linked_apart, begins, at_end, router_at, has_paths, low, solves, at_index, routers_once, has_at, picks_part, router_in, in_router}
+use Rattle.stable_search.proofs.EveryLemmas.{Picked, picked, one_value, linked_apart, begins, at_end, end_at, router_at, is_router, has_paths, low, solves, at_index, routers_once, has_at, picks_part, router_in, in_router}
 use Rattle.stable_search.proofs.PartLemmas.{same_fit, group_before}
 use Rattle.stable_search.proofs.PlaceLemmas.{stands, here}
 use Rattle.stable_search.proofs.RefusalLemmas.{value_at, by_seat, by_seat_is, some_routers, together, together_same, path_is}
@@ -93,9 +94,30 @@ same_place places one other size c d =
     let j : d.0 ≡ 0 = (let lt = d.1 in omega (arith, lt, size)) in
     sym c.2 ∙ get_or_default places c.0 one other c.1 ∙ ap (λ (n : ℕ). get_or places n other) (i ∙ sym j) ∙ d.2
 
+-- a router by itself has a path that it may have
+lone_has : (p : Problem) → IsNetwork p.net → (may : ℕ → List (List ℕ)) (part : Component) → length part.routers ≡ 1 → 0 < length (may (get_or part.routers 0 0))
+    → (table : Table) × IsTableOf p.net (get_or part.routers 0 0) table × All (MayStand p.net.links p.prefix table) (may (get_or part.routers 0 0)) → AreChoices p may part → 0 < length (choices_of part)
+lone_has p net may part single some t choices =
+    let u = get_or part.routers 0 0 in
+    let here_u : Contains part.routers u = Contains-get_or part.routers 0 0 (omega (arith, single)) in
+    let same : (v : ℕ) → Contains part.routers v → u ≡ v = λ v c. same_place part.routers u v single here_u c in
+    let path = get_or (may u) 0 [] in
+    let path_in_u : Contains (may u) path = Contains-get_or (may u) 0 [] some in
+    let fit : FitTogether p part.routers (λ v. path) = λ v c. (
+      t.0,
+      subst (λ (n : ℕ). IsTableOf p.net n t.0) (same v c) t.1,
+      record {
+        may = t.2 0 [] some;
+        fits = λ w cw linked not. absurd (linked_apart p.net net t.0.router w linked (t.1.0 ∙ same w cw));
+      },
+    ) in
+    let choice = (choices (λ v. path)).1 ((λ v c. subst (λ (n : ℕ). Contains (may n) path) (same v c) path_in_u), fit) in
+    let lt = choice.1 in
+    omega (arith, lt)
+
 module _ (p : Problem) (is : IsInstance p) (law : StableIsFitting) (seats : List Seat) (at : map (λ (s : Seat). s.router) seats ≡ numbers p.net.routers) (each : All (IsSeat p) seats)
     (ways : List Way) (over : AreWaysOf p.net.links seats ways) (sets : List ℕ) (values : AreValues seats sets) (now : List ℕ) (narrows : Narrows ways sets now)
-    (levels : List ℕ) (groups : List Group) (led : AreLed ways sets now levels groups) (parts : List Component) (of : ArePartsOf seats levels groups parts) (alive : AllSome now) where
+    (ends : List Way) (ends_of : AreEndsOf p.net.links seats ends) (levels : List ℕ) (groups : List Group) (led : AreLed ways ends sets now levels groups) (parts : List Component) (of : ArePartsOf seats levels groups parts) (alive : AllSome now) where
   size_now : length now ≡ length seats
   size_now = narrows.size ∙ values.0
 
@@ -322,44 +344,107 @@ module _ (p : Problem) (is : IsInstance p) (law : StableIsFitting) (seats : List
           let c = own.whole values_are.pick (low p is law seats at each ways over sets values other values_are) between in
           subst (Contains (choices_of part)) other_maps (picks_part seats sets values levels group group_is part of_part other values_are c)
 
+  all_choices : (g : ℕ) (group : Group) (part : Component) → StandsAt groups g group → StandsAt parts g part → AreChoices p may part
+  all_choices g group part st pt paths = (
+    λ c. (choice_may g group part st pt paths c, choice_fits g group part st pt paths c),
+    λ both. fits_choice g group part st pt paths both.0 both.1,
+  )
+
+  -- ---- a router in dispute and one that follows
+
+  -- a place of a group that has no pick or several, and isn't led, follows none
+  flat_at : (g : ℕ) (group : Group) (part : Component) → StandsAt groups g group → StandsAt parts g part → part.follows ≡ false → (length (choices_of part) ≢ 1) → (i : ℕ) → Contains group.places i → get_or levels i 0 ≡ 0
+  flat_at g group part st pt own many i c = elim (cases_lt 0 (get_or levels i 0)) [
+    | inr none ↦ omega (arith, none)
+    | inl up ↦
+        let it = of.each g group part st pt in
+        let single : length group.places ≡ 1 = here (λ (x : Group). (place : ℕ) → Contains x.places place → 0 < get_or levels place 0 → length x.places ≡ 1) groups g group led.alone st i c up in
+        let first : get_or group.places 0 0 ≡ i = same_place group.places (get_or group.places 0 0) i single (Contains-get_or group.places 0 0 (omega (arith, single))) c in
+        let s = seated g group part st pt i c in
+        let e : get_or part.routers 0 0 ≡ s.0.router = it.routers.each 0 s.0 (omega (arith, single)) (subst (λ (n : ℕ). StandsAt seats n s.0) (sym first) s.1) in
+        let router : IsRouter p.net.routers (get_or part.routers 0 0) = subst (IsRouter p.net.routers) (sym e) (is_router p is law seats at each ways over sets values i s.0 s.1) in
+        let has = lone_has p is.problem.network may part (it.routers.size ∙ single) (may_some (get_or part.routers 0 0) router) (may_stand (get_or part.routers 0 0) router) (all_choices g group part st pt) in
+        let several : 1 < length group.picks = (let size = as_many seats levels group part it in omega (arith, has, many, size)) in
+        absurd (both_ways part.follows own (it.follows.1 (several, subst (λ (n : ℕ). 0 < get_or levels n 0) (sym first) up)))
+  ]
+
+  -- the place of a group that is led follows
+  up_at : (g : ℕ) (group : Group) (part : Component) → StandsAt groups g group → StandsAt parts g part → part.follows ≡ true → (i : ℕ) → Contains group.places i → 0 < get_or levels i 0
+  up_at g group part st pt flag i c =
+      let l = (of.each g group part st pt).follows.0 flag in
+      let some = (group_is g group part st pt).some in
+      let first = Contains-get_or group.places 0 0 some in
+      let single : length group.places ≡ 1 = here (λ (x : Group). (place : ℕ) → Contains x.places place → 0 < get_or levels place 0 → length x.places ≡ 1) groups g group led.alone st (get_or group.places 0 0) first l.1 in
+      subst (λ (n : ℕ). 0 < get_or levels n 0) (same_place group.places (get_or group.places 0 0) i single first c) l.1
+
+  -- at the end of a link from a place of a higher level each two of their paths fit
+  free_end : (i : ℕ) (s : Seat) → StandsAt seats i s → (j : ℕ) (t : Seat) → StandsAt seats j t → Linked p.net.links s.router t.router → get_or levels i 0 < get_or levels j 0
+      → (path theirs : List ℕ) → Contains (may s.router) path → Contains (may t.router) theirs → FitsEnd s t.router path theirs
+  free_end i s st j t to linked up path theirs mine other =
+      let h = ends_of.all j to.0 i t s to st (linked_back p.net.links s.router t.router linked) in
+      let end = h.1 in
+      let w = here (IsEndOf p.net.links seats) ends h.0 end ends_of.each (h.2, h.3) in
+      let higher : get_or levels end.to 0 < get_or levels end.from 0 =
+      subst (λ (n : ℕ). get_or levels n 0 < get_or levels end.from 0) (sym h.4.1) (subst (λ (n : ℕ). get_or levels i 0 < get_or levels n 0) (sym h.4.0) up) in
+      let free : IsFree led.wide end = here (λ (x : Way). get_or levels x.to 0 < get_or levels x.from 0 → IsFree led.wide x) ends h.0 end led.levels_are.unmoved (h.2, h.3) higher in
+      let a = has_kept t.values.items (get_or now j 0) 0 theirs (subst (λ (ys : List (List ℕ)). Contains ys theirs) (may_is j t to) other) in
+      let b = has_kept s.values.items (get_or now i 0) 0 path (subst (λ (ys : List (List ℕ)). Contains ys path) (may_is i s st) mine) in
+      let a_wide : Has (get_or led.wide end.from 0) a.j = subst (λ (n : ℕ). Has (get_or led.wide n 0) a.j) (sym h.4.0) (led.narrowed.fewer j a.j (subst (Has (get_or now j 0)) (omega arith) a.has)) in
+      let b_wide : Has (get_or led.wide end.to 0) b.j = subst (λ (n : ℕ). Has (get_or led.wide n 0) b.j) (sym h.4.1) (led.narrowed.fewer i b.j (subst (Has (get_or now i 0)) (omega arith) b.has)) in
+      let few = (seat_is j t to).few in
+      let inside = a.inside in
+      let fits : Has (get_or end.fits.items a.j 0) b.j = free a.j b.j (omega (arith, few, inside)) a_wide b_wide in
+      let one : w.one ≡ t = same_seat seats j w.one t (subst (λ (n : ℕ). StandsAt seats n w.one) h.4.0 w.from) to in
+      let two : w.other ≡ s = same_seat seats i w.other s (subst (λ (n : ℕ). StandsAt seats n w.other) h.4.1 w.to) st in
+      let at_end : FitsEnd w.other w.one.router (get_or w.other.values.items b.j []) (get_or w.one.values.items a.j []) =
+      (w.fits.exact a.j b.j (subst (λ (r : Seat). a.j < length r.values.items) (sym one) a.inside) (subst (λ (r : Seat). b.j < length r.values.items) (sym two) b.inside)).0 fits in
+      let at_seats : FitsEnd s t.router (get_or s.values.items b.j []) (get_or t.values.items a.j []) =
+      subst (λ (r : Seat). FitsEnd r t.router (get_or r.values.items b.j []) (get_or t.values.items a.j [])) two
+      (subst (λ (r : Seat). FitsEnd w.other r.router (get_or w.other.values.items b.j []) (get_or r.values.items a.j [])) one at_end) in
+      subst (λ (q : List ℕ). FitsEnd s t.router q theirs) b.is (subst (FitsEnd s t.router (get_or s.values.items b.j [])) a.is at_seats)
+
+  unmoved : (u v : ℕ) → Disputes parts u → Trails parts v → Linked p.net.links u v → (table : Table) → IsTableOf p.net u table → (Originates table p.prefix table.router → ⊥)
+      → (path theirs : List ℕ) → Contains (may u) path → Contains (may v) theirs → FitsAt table p.prefix v path theirs
+  unmoved u v d f linked table of_table not path theirs mine other =
+      let group = stands groups d.0 (let lt = d.2 in omega (arith, lt, of.size)) in
+      let pt : StandsAt parts d.0 d.1 = (d.2, d.3) in
+      let r = router_in seats sets values levels group.0 (group_is d.0 group.0 d.1 group.1 pt) d.1 (of.each d.0 group.0 d.1 group.1 pt) u d.4.2 in
+      let flat = flat_at d.0 group.0 d.1 group.1 pt d.4.0 d.4.1 r.0 r.2 in
+      let led_group = stands groups f.0 (let lt = f.2 in omega (arith, lt, of.size)) in
+      let qt : StandsAt parts f.0 f.1 = (f.2, f.3) in
+      let q = router_in seats sets values levels led_group.0 (group_is f.0 led_group.0 f.1 led_group.1 qt) f.1 (of.each f.0 led_group.0 f.1 led_group.1 qt) v f.4.1 in
+      let up = up_at f.0 led_group.0 f.1 led_group.1 qt f.4.0 q.0 q.2 in
+      let s = r.1 in
+      let t = q.1 in
+      let x = seat_is r.0 s r.3 in
+      let same : x.table ≡ table = one_table p.net u x.table table is.problem.network (subst (λ (n : ℕ). IsTableOf p.net n x.table) r.4 x.of) of_table in
+      let linked_seats : Linked p.net.links s.router t.router = subst (λ (n : ℕ). Linked p.net.links n t.router) (sym r.4) (subst (Linked p.net.links u) (sym q.4) linked) in
+      let fits = free_end r.0 s r.3 q.0 t q.3 linked_seats (omega (arith, flat, up)) path theirs (subst (λ (n : ℕ). Contains (may n) path) (sym r.4) mine) (subst (λ (n : ℕ). Contains (may n) theirs) (sym q.4) other) in
+      let at_table : FitsAt x.table p.prefix t.router path theirs = end_at p s x t.router path theirs (subst (λ (n : Table). Originates n p.prefix n.router → ⊥) (sym same) not) fits in
+      subst (λ (n : ℕ). FitsAt table p.prefix n path theirs) q.4 (subst (λ (n : Table). FitsAt n p.prefix t.router path theirs) same at_table)
+
   pub among : ChooseAmong p parts
   among = record {
     may = may;
     some = may_some;
     stand = may_stand;
     has = may_stable;
-    choices = λ g d lt paths.
+    choices = λ g d lt.
         (let group = stands groups g (omega (arith, lt, of.size)) in
         let part = get_or parts g d in
-        let pt : StandsAt parts g part = (lt, get_or_default parts g part d lt) in (
-          λ c. (choice_may g group.0 part group.1 pt paths c, choice_fits g group.0 part group.1 pt paths c),
-          λ both. fits_choice g group.0 part group.1 pt paths both.0 both.1,
-        ));
+        let pt : StandsAt parts g part = (lt, get_or_default parts g part d lt) in
+        all_choices g group.0 part group.1 pt);
+    unmoved = unmoved;
   }
 
--- a router by itself has a path that it may have
 pub several_have_none : SeveralHaveNone
 several_have_none p is every all g d lt none = elim (cases_lt 1 (length (get_or every.parts g d).routers)) [
   | inl more ↦ more
   | inr few ↦
       let part : Component = get_or every.parts g d in
       let some = (all.parts g d lt).some in
-      let single : length part.routers ≡ 1 = omega (arith, few, some) in
       let u = get_or part.routers 0 0 in
-      let here_u : Contains part.routers u = Contains-get_or part.routers 0 0 some in
-      let router : IsRouter p.net.routers u = (all.routers u).1 (g, part, lt, get_or_default every.parts g part d lt, here_u) in
-      let same : (v : ℕ) → Contains part.routers v → u ≡ v = λ v c. same_place part.routers u v single here_u c in
-      let path = get_or (all.among.may u) 0 [] in
-      let path_in_u : Contains (all.among.may u) path = Contains-get_or (all.among.may u) 0 [] (all.among.some u router) in
-      let t = all.among.stand u router in
-      let fit : FitTogether p part.routers (λ v. path) = λ v c. (
-        t.0,
-        subst (λ (n : ℕ). IsTableOf p.net n t.0) (same v c) t.1,
-        record {
-          may = t.2 0 [] (all.among.some u router);
-          fits = λ w cw linked not. absurd (linked_apart p.net is.network t.0.router w linked (t.1.0 ∙ same w cw));
-        },
-      ) in
-      let choice = (all.among.choices g d lt (λ v. path)).1 ((λ v c. subst (λ (n : ℕ). Contains (all.among.may n) path) (same v c) path_in_u), fit) in
-      absurd (omega (arith, choice.1, none))
+      let router : IsRouter p.net.routers u = (all.routers u).1 (g, part, lt, get_or_default every.parts g part d lt, Contains-get_or part.routers 0 0 some) in
+      let has = lone_has p is.network all.among.may part (omega (arith, few, some)) (all.among.some u router) (all.among.stand u router) (all.among.choices g d lt) in
+      absurd (omega (arith, has, none))
 ]

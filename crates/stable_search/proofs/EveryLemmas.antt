@@ -16,9 +16,8 @@ use Rattle.stable_search.specs.declared.seat.Seat.{Seat}
 use Rattle.stable_search.specs.declared.way.Way.{Way}
 use Rattle.stable_search.specs.Fits.{MayStand, FitsAt, FitsPeers, IsFitting, StableIsFitting}
 use Rattle.stable_search.specs.Every.{picked_paths, choices_of, ArePlacesIn, HasChoice, IsPart}
-use Rattle.stable_search.specs.Following.{IsUp}
 use Rattle.stable_search.specs.Picks.{FitsWay, Solves}
-use Rattle.stable_search.specs.Seats.{IsSeat, FitsBy, FitsEnd, FitsBoth, StandsAt, IsWayOf, AreWaysOf}
+use Rattle.stable_search.specs.Seats.{IsSeat, FitsBy, FitsEnd, FitsBoth, StandsAt, IsWayOf, AreWaysOf, IsEndOf, AreEndsOf}
 use Rattle.stable_search.specs.Groups.{at_places, IsPickOf, IsGroup, AreValues, IsShown, IsLed, IsPartOf}
 use Rattle.stable_search.proofs.ChoiceLemmas.{as_many, path_picked, size_picked}
 use Rattle.stable_search.proofs.FitLemmas.{not_nil}
@@ -169,10 +168,25 @@ module _ (p : Problem) (is : IsInstance p) (law : StableIsFitting) (seats : List
             (subst (λ (q : List ℕ). FitsBoth w.one w.other q (get_or w.other.values.items b [])) (sym (k.is way.from w.one w.from))
             (subst (FitsBoth w.one w.other (paths w.one.router)) (sym (k.is way.to w.other w.to)) both))
 
-    -- and an assignment whose values fit over each way up is stable
-    pub fitting_by : (levels : List ℕ) → ((i j : ℕ) → i < length seats → j < length seats → 0 < get_or levels i 0 → get_or levels j 0 ≡ get_or levels i 0 → j ≡ i)
-        → ((i : ℕ) (s : Seat) → StandsAt seats i s → Contains s.values.items (paths s.router)) → (k : Picked seats paths) → All (λ way. IsUp levels way → FitsWay k.pick way) ways → IsFitting p paths
-    fitting_by levels once has k fits u router =
+    -- and they fit at each end of a link
+    pub solves_ends : (ends : List Way) → AreEndsOf p.net.links seats ends → IsFitting p paths → (k : Picked seats paths) → All (FitsWay k.pick) ends
+    solves_ends ends of fitting k n d lt = end_fits (get_or ends n d) (of.each n d lt)
+      where
+        end_fits : (end : Way) → IsEndOf p.net.links seats end → FitsWay k.pick end
+        end_fits end w =
+            let a = get_or k.pick end.from 0 in
+            let b = get_or k.pick end.to 0 in
+            let theirs = fits_end fitting end.to w.other w.to w.one.router (linked_back p.net.links w.one.router w.other.router w.linked) in
+            (w.fits.exact a b (k.inside end.from w.one w.from) (k.inside end.to w.other w.to)).1
+            (subst (λ (q : List ℕ). FitsEnd w.other w.one.router q (get_or w.one.values.items a [])) (sym (k.is end.to w.other w.to))
+            (subst (FitsEnd w.other w.one.router (paths w.other.router)) (sym (k.is end.from w.one w.from)) theirs))
+
+    -- and an assignment is stable whose values fit over each way between places that follow none, and at both ends of each
+    -- link of another
+    pub fitting_by : (ends : List Way) → AreEndsOf p.net.links seats ends → (levels : List ℕ) → ((i : ℕ) (s : Seat) → StandsAt seats i s → Contains s.values.items (paths s.router)) → (k : Picked seats paths)
+        → All (λ way. (get_or levels way.from 0 ≡ 0) → get_or levels way.to 0 ≡ 0 → FitsWay k.pick way) ways
+        → All (λ end. ((0 < get_or levels end.from 0) ⊎ (0 < get_or levels end.to 0)) → (end.from ≢ end.to) → FitsWay k.pick end) ends → IsFitting p paths
+    fitting_by ends of levels has k flat_fits fits u router =
         let r = router_at u router in
         let i = r.0 in
         let s = r.1 in
@@ -185,18 +199,16 @@ module _ (p : Problem) (is : IsInstance p) (law : StableIsFitting) (seats : List
           },
         )
       where
-        -- over a way up
-        both_up : (i : ℕ) (s : Seat) → StandsAt seats i s → (j : ℕ) (t : Seat) → StandsAt seats j t → Linked p.net.links s.router t.router
-            → (get_or levels i 0 < get_or levels j 0) ⊎ ((get_or levels i 0 ≡ 0) × (get_or levels j 0 ≡ 0)) → FitsBoth s t (paths s.router) (paths t.router)
-        both_up i s st j t to linked up =
+        -- over a way between places that follow none
+        both_flat : (i : ℕ) (s : Seat) → StandsAt seats i s → (j : ℕ) (t : Seat) → StandsAt seats j t → Linked p.net.links s.router t.router
+            → get_or levels i 0 ≡ 0 → get_or levels j 0 ≡ 0 → FitsBoth s t (paths s.router) (paths t.router)
+        both_flat i s st j t to linked one_flat other_flat =
             let h = over.all i st.0 j s t st to linked in
             let way = h.1 in
             let w = here (IsWayOf p.net.links seats) ways h.0 way over.each (h.2, h.3) in
-            let is_up : IsUp levels way = elim up [
-              | inl l ↦ inl (subst (λ (n : ℕ). get_or levels n 0 < get_or levels way.to 0) (sym h.4.0) (subst (λ (n : ℕ). get_or levels i 0 < get_or levels n 0) (sym h.4.1) l))
-              | inr flat ↦ inr (ap (λ (n : ℕ). get_or levels n 0) h.4.0 ∙ flat.0, ap (λ (n : ℕ). get_or levels n 0) h.4.1 ∙ flat.1)
-            ] in
-            let fits_way : FitsWay k.pick way = here (λ (x : Way). IsUp levels x → FitsWay k.pick x) ways h.0 way fits (h.2, h.3) is_up in
+            let fits_way : FitsWay k.pick way =
+            here (λ (x : Way). get_or levels x.from 0 ≡ 0 → get_or levels x.to 0 ≡ 0 → FitsWay k.pick x) ways h.0 way flat_fits (h.2, h.3)
+            (ap (λ (n : ℕ). get_or levels n 0) h.4.0 ∙ one_flat) (ap (λ (n : ℕ). get_or levels n 0) h.4.1 ∙ other_flat) in
             let one : w.one ≡ s = same_seat seats i w.one s (subst (λ (n : ℕ). StandsAt seats n w.one) h.4.0 w.from) st in
             let other : w.other ≡ t = same_seat seats j w.other t (subst (λ (n : ℕ). StandsAt seats n w.other) h.4.1 w.to) to in
             let values_fit = (w.fits.exact (get_or k.pick way.from 0) (get_or k.pick way.to 0) (k.inside way.from w.one w.from) (k.inside way.to w.other w.to)).0 fits_way in
@@ -211,15 +223,42 @@ module _ (p : Problem) (is : IsInstance p) (law : StableIsFitting) (seats : List
             let same : t ≡ s = same_seat seats i t s (subst (λ (n : ℕ). StandsAt seats n t) e to) st in
             linked_apart p.net is.problem.network s.router t.router linked (ap (λ (r : Seat). r.router) (sym same))
 
+        -- at the second end of a link
+        end_fits : (i : ℕ) (s : Seat) → StandsAt seats i s → (j : ℕ) (t : Seat) → StandsAt seats j t → Linked p.net.links s.router t.router
+            → (0 < get_or levels i 0) ⊎ (0 < get_or levels j 0) → FitsEnd t s.router (paths t.router) (paths s.router)
+        end_fits i s st j t to linked some =
+            let h = of.all i st.0 j s t st to linked in
+            let end = h.1 in
+            let w = here (IsEndOf p.net.links seats) ends h.0 end of.each (h.2, h.3) in
+            let some_at : (0 < get_or levels end.from 0) ⊎ (0 < get_or levels end.to 0) = elim some [
+              | inl up ↦ inl (subst (λ (n : ℕ). 0 < get_or levels n 0) (sym h.4.0) up)
+              | inr up ↦ inr (subst (λ (n : ℕ). 0 < get_or levels n 0) (sym h.4.1) up)
+            ] in
+            let differ : end.from ≢ end.to = λ e. apart i s st j t to linked (sym h.4.1 ∙ sym e ∙ h.4.0) in
+            let fits_way : FitsWay k.pick end =
+            here (λ (x : Way). ((0 < get_or levels x.from 0) ⊎ (0 < get_or levels x.to 0)) → (x.from ≢ x.to) → FitsWay k.pick x) ends h.0 end fits (h.2, h.3) some_at differ in
+            let one : w.one ≡ s = same_seat seats i w.one s (subst (λ (n : ℕ). StandsAt seats n w.one) h.4.0 w.from) st in
+            let other : w.other ≡ t = same_seat seats j w.other t (subst (λ (n : ℕ). StandsAt seats n w.other) h.4.1 w.to) to in
+            let values_fit = (w.fits.exact (get_or k.pick end.from 0) (get_or k.pick end.to 0) (k.inside end.from w.one w.from) (k.inside end.to w.other w.to)).0 fits_way in
+            let paths_fit : FitsEnd w.other w.one.router (paths w.other.router) (paths w.one.router) =
+            subst (FitsEnd w.other w.one.router (paths w.other.router)) (k.is end.from w.one w.from)
+            (subst (λ (q : List ℕ). FitsEnd w.other w.one.router q (get_or w.one.values.items (get_or k.pick end.from 0) [])) (k.is end.to w.other w.to) values_fit) in
+            subst (λ (r : Seat). FitsEnd r s.router (paths r.router) (paths s.router)) other
+            (subst (λ (r : Seat). FitsEnd w.other r.router (paths w.other.router) (paths r.router)) one paths_fit)
+
+        both_beside : (i : ℕ) (s : Seat) → StandsAt seats i s → (j : ℕ) (t : Seat) → StandsAt seats j t → Linked p.net.links s.router t.router
+            → (0 < get_or levels i 0) ⊎ (0 < get_or levels j 0) → FitsBoth s t (paths s.router) (paths t.router)
+        both_beside i s st j t to linked some = (
+          end_fits j t to i s st (linked_back p.net.links s.router t.router linked) (elim some [ inl up ↦ inr up | inr up ↦ inl up ]),
+          end_fits i s st j t to linked some,
+        )
+
         both_at : (i : ℕ) (s : Seat) → StandsAt seats i s → (j : ℕ) (t : Seat) → StandsAt seats j t → Linked p.net.links s.router t.router → FitsBoth s t (paths s.router) (paths t.router)
-        both_at i s st j t to linked = elim (cases_order (get_or levels i 0) (get_or levels j 0)) [
-          | inl same ↦ elim (cases_lt 0 (get_or levels i 0)) [
-            | inl up ↦ absurd (apart i s st j t to linked (once i j st.0 to.0 up (sym same)))
-            | inr flat ↦ both_up i s st j t to linked (inr (omega (arith, flat), omega (arith, flat, same)))
-          ]
-          | inr differ ↦ elim differ [
-            | inl less ↦ both_up i s st j t to linked (inl less)
-            | inr more ↦ (let back = both_up j t to i s st (linked_back p.net.links s.router t.router linked) (inl more) in (back.1, back.0))
+        both_at i s st j t to linked = elim (cases_lt 0 (get_or levels i 0)) [
+          | inl up ↦ both_beside i s st j t to linked (inl up)
+          | inr one_flat ↦ elim (cases_lt 0 (get_or levels j 0)) [
+            | inl up ↦ both_beside i s st j t to linked (inr up)
+            | inr other_flat ↦ both_flat i s st j t to linked (omega (arith, one_flat)) (omega (arith, other_flat))
           ]
         ]
 

@@ -26,9 +26,9 @@ one_place sets group place is all = elim (cases_lt 1 (length group.places)) [
   | inr few ↦ (let some = is.some in omega (arith, some, few))
 ]
 
-pub led_of : (ways : List Way) (old wide sets levels : List ℕ) (core : List Way) (groups : List Group) → Narrows ways old wide → Narrows ways wide sets → AreLevels ways wide levels → KeepsPart levels 0 ways core → AreCopies levels 0 ways core → All (InPart levels 0) core → AreGroups core sets groups
-    → (Any (IsLed levels) groups → Any (IsOpen levels) groups) → AreLed ways old sets levels groups
-led_of ways old wide sets levels core groups before narrowed are keeps copies inside fall needed = record {
+pub led_of : (ways ends : List Way) (old wide sets levels : List ℕ) (core : List Way) (groups : List Group) → Narrows ways old wide → Narrows ways wide sets → AreLevels ends wide levels → KeepsPart levels 0 ways core → AreCopies levels 0 ways core → All (InPart levels 0) core → AreGroups core sets groups
+    → (Any (IsLed levels) groups → Any (IsOpen levels) groups) → AreLed ways ends old sets levels groups
+led_of ways ends old wide sets levels core groups before narrowed are keeps copies inside fall needed = record {
   wide = wide;
   before = before;
   narrowed = narrowed;
@@ -49,12 +49,12 @@ led_of ways old wide sets levels core groups before narrowed are keeps copies in
     differs place other up flat e = (let z : get_or levels place 0 ≡ 0 = ap (λ (n : ℕ). get_or levels n 0) (sym e) ∙ flat in omega (arith, z, up))
 
 -- where no place follows
-pub led_by_none : (ways : List Way) (old sets levels : List ℕ) (groups : List Group) → Narrows ways old sets → length levels ≡ length sets → ((i : ℕ) → get_or levels i 0 ≡ 0) → AreGroups ways sets groups → AreLed ways old sets levels groups
-led_by_none ways old sets levels groups before size flat fall = record {
+pub led_by_none : (ways ends : List Way) (old sets levels : List ℕ) (groups : List Group) → Narrows ways old sets → length levels ≡ length sets → ((i : ℕ) → get_or levels i 0 ≡ 0) → AreGroups ways sets groups → AreLed ways ends old sets levels groups
+led_by_none ways ends old sets levels groups before size flat fall = record {
   wide = sets;
   before = before;
   narrowed = narrows_start ways sets;
-  levels_are = levels_start ways sets levels size flat;
+  levels_are = levels_start ends sets levels size flat;
   core = ways;
   keeps = λ pick. ((λ all k d lt in_part. all k d lt), (λ all k d lt. all k d lt (flat (get_or ways k d).from, flat (get_or ways k d).to)));
   copies = record {

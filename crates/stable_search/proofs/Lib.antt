@@ -20,4 +20,5 @@ pub mod RefusalLemmas
 pub mod ChoiceLemmas
 pub mod CombineLemmas
 pub mod AmongLemmas
+pub mod SettleLemmas
 pub mod WholeLemmas

@@ -14,7 +14,7 @@ use Rattle.ranked_policy.specs.Plans.{Linked}
 use Rattle.stable_search.specs.declared.seat.Seat.{Seat}
 use Rattle.stable_search.specs.declared.way.Way.{Way}
 use Rattle.stable_search.specs.Picks.{Has}
-use Rattle.stable_search.specs.Seats.{StandsAt, IsWayOf, HasWay, HasWaysFrom}
+use Rattle.stable_search.specs.Seats.{StandsAt, IsWayOf, IsEndOf, HasWay, HasWaysFrom}
 
 -- ---- bits below a place
 
@@ -87,6 +87,9 @@ from_more links seats ways new n all kept here from lt to one other at to_at lin
 
 pub each_more : (links : List Link) (seats : List Seat) (ways new : List Way) (way : Way) → new ≡ ways ++ way ∷ [] → All (IsWayOf links seats) ways → IsWayOf links seats way → All (IsWayOf links seats) new
 each_more links seats ways new way e all is = subst (All (IsWayOf links seats)) (sym e) (All-push (IsWayOf links seats) ways way all is)
+
+pub each_end_more : (links : List Link) (seats : List Seat) (ways new : List Way) (way : Way) → new ≡ ways ++ way ∷ [] → All (IsEndOf links seats) ways → IsEndOf links seats way → All (IsEndOf links seats) new
+each_end_more links seats ways new way e all is = subst (All (IsEndOf links seats)) (sym e) (All-push (IsEndOf links seats) ways way all is)
 
 -- two seats at one place are one
 pub same_seat : (seats : List Seat) (i : ℕ) (a b : Seat) → StandsAt seats i a → StandsAt seats i b → a ≡ b

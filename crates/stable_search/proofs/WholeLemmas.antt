@@ -1,5 +1,5 @@
 -- A stable assignment has one of the choices of each part, and any choices of the parts that don't follow are had in one.
-use Rattle.std.proofs.Common.{◌≡◌, ◌≢◌, ℕ, ◌<◌, ◌≤◌, false, List, [], length, get_or, map, sym, ap, subst, ◌∙◌, arith, inl, inr}
+use Rattle.std.proofs.Common.{◌≡◌, ◌≢◌, ℕ, ◌<◌, ◌≤◌, false, List, [], length, get_or, map, sym, ap, subst, ◌∙◌, arith, inl, inr, ◌⊎◌}
 use Rattle.std.specs.List.{All, AllPairs, Contains}
 use Rattle.std.proofs.lemmas.Bool.{cases_Bool, both_ways, cases_lt}
 use Rattle.std.proofs.lemmas.List.{get_or_default}
@@ -12,15 +12,14 @@ use Rattle.stable_search.specs.declared.seat.Seat.{Seat}
 use Rattle.stable_search.specs.declared.way.Way.{Way}
 use Rattle.stable_search.specs.Every.{choices_of, HasChoice, HaveChoices, Agree, IsPart, IsEveryStable}
 use Rattle.stable_search.specs.Fits.{IsFitting, StableIsFitting}
-use Rattle.stable_search.specs.Following.{IsUp}
 use Rattle.stable_search.specs.Groups.{at_places, IsGroup, AreGroups, AreValues, IsLed, IsPartOf, ArePartsOf}
 use Rattle.stable_search.specs.Led.{IsOpen, AreLed}
-use Rattle.stable_search.specs.Picks.{AllSome, FitsWay, IsIn, Solves, Narrows}
-use Rattle.stable_search.specs.Seats.{IsSeat, StandsAt, AreWaysOf}
+use Rattle.stable_search.specs.Picks.{AllSome, Has, FitsWay, IsIn, Solves, Narrows}
+use Rattle.stable_search.specs.Seats.{IsSeat, StandsAt, AreWaysOf, AreEndsOf}
 use Rattle.stable_search.proofs.AmongLemmas.{among}
 use Rattle.stable_search.proofs.ChoiceLemmas.{as_many}
 use Rattle.stable_search.proofs.CombineLemmas.{AreApart, filled, map_same, same_in}
-use Rattle.stable_search.proofs.EveryLemmas.{Picked, picked, one_value, router_at, is_router, has_paths, low, solves, fitting_by, routers_once, routers_rise, part_has, part_picks, picks_part, is_part, router_in, in_router}
+use Rattle.stable_search.proofs.EveryLemmas.{Picked, picked, one_value, router_at, is_router, has_paths, low, solves, solves_ends, fitting_by, routers_once, routers_rise, part_has, part_picks, picks_part, is_part, router_in, in_router}
 use Rattle.stable_search.proofs.FollowLemmas.{AreEnds, all_extended, same_everywhere}
 use Rattle.stable_search.proofs.NarrowLemmas.{in_before, narrows_then}
 use Rattle.stable_search.proofs.PartLemmas.{group_before}
@@ -35,8 +34,8 @@ one_of_few xs a b few c d =
     sym c.2 ∙ get_or_default xs c.0 a b c.1 ∙ ap (λ (n : ℕ). get_or xs n b) (i ∙ sym j) ∙ d.2
 
 module _ (p : Problem) (is : IsInstance p) (law : StableIsFitting) (seats : List Seat) (at : map (λ (s : Seat). s.router) seats ≡ numbers p.net.routers) (each : All (IsSeat p) seats)
-    (ways : List Way) (over : AreWaysOf p.net.links seats ways) (sets : List ℕ) (values : AreValues seats sets) (now : List ℕ)
-    (levels : List ℕ) (groups : List Group) (led : AreLed ways sets now levels groups) (found : Every) (of : ArePartsOf seats levels groups found.parts) where
+    (ways : List Way) (over : AreWaysOf p.net.links seats ways) (ends : List Way) (ends_of : AreEndsOf p.net.links seats ends) (sets : List ℕ) (values : AreValues seats sets) (now : List ℕ)
+    (levels : List ℕ) (groups : List Group) (led : AreLed ways ends sets now levels groups) (found : Every) (of : ArePartsOf seats levels groups found.parts) where
   fall : AreGroups led.core now groups
   fall = led.fall
 
@@ -88,6 +87,9 @@ module _ (p : Problem) (is : IsInstance p) (law : StableIsFitting) (seats : List
 
     solved : Solves ways sets values_of.pick
     solved = solves p is law seats at each ways over sets values paths fitting values_of
+
+    at_ends : All (FitsWay values_of.pick) ends
+    at_ends = solves_ends p is law seats at each ways over sets values paths ends ends_of fitting values_of
 
     inside_wide : IsIn led.wide values_of.pick
     inside_wide = led.before.keeps values_of.pick solved
@@ -146,9 +148,9 @@ module _ (p : Problem) (is : IsInstance p) (law : StableIsFitting) (seats : List
             absurd (omega (arith, up, flat))
       ]
 
-  ends : AreEnds (length levels) ways
-  ends k d lt =
-      let w = over.each k d lt in
+  within : AreEnds (length levels) ends
+  within k d lt =
+      let w = ends_of.each k d lt in
       (omega (arith, w.from.0, size_levels), omega (arith, w.to.0, size_levels))
 
   -- ---- choices are had
@@ -172,8 +174,16 @@ module _ (p : Problem) (is : IsInstance p) (law : StableIsFitting) (seats : List
         let part = part_at g lt in
         part_picks seats sets values levels group (group_is g group at_g) part.0 (of.each g group part.0 at_g part.1) full.0 once start (here (HasChoice full.0) found.parts g part.0 full.1 part.1)))
 
-    more : (more : List ℕ) × IsIn led.wide more × ((i : ℕ) → get_or levels i 0 ≡ 0 → get_or more i 0 ≡ get_or start.pick i 0) × All (λ way. IsUp levels way → FitsWay more way) ways
-    more = all_extended ways led.wide levels led.levels_are ends start.pick (in_before ways led.wide now start.pick led.narrowed start_solved.inside) (λ k d lt from to. (led.keeps start.pick).0 start_solved.fits k d lt (from, to))
+    more : (more : List ℕ) × IsIn led.wide more × ((i : ℕ) → get_or levels i 0 ≡ 0 → get_or more i 0 ≡ get_or start.pick i 0)
+        × All (λ end. ((0 < get_or levels end.from 0) ⊎ (0 < get_or levels end.to 0)) → (end.from ≢ end.to) → FitsWay more end) ends
+    more = all_extended ends led.wide levels led.levels_are within start.pick (in_before ways led.wide now start.pick led.narrowed start_solved.inside)
+
+    -- nothing changed between places that follow none
+    core_fits : All (λ way. (get_or levels way.from 0 ≡ 0) → get_or levels way.to 0 ≡ 0 → FitsWay more.0 way) ways
+    core_fits k d lt from to =
+        let way = get_or ways k d in
+        subst (λ (v : ℕ). Has (get_or way.fits.items v 0) (get_or more.0 way.to 0)) (sym (more.2 way.from from))
+        (subst (Has (get_or way.fits.items (get_or start.pick way.from 0) 0)) (sym (more.2 way.to to)) ((led.keeps start.pick).0 start_solved.fits k d lt (from, to)))
 
     abbrev stable_paths : ℕ → List ℕ
     stable_paths = value_at seats more.0
@@ -188,12 +198,11 @@ module _ (p : Problem) (is : IsInstance p) (law : StableIsFitting) (seats : List
     as_picked = record { pick = more.0; size = more.1.size ∙ led.before.size ∙ values.0; inside = inside_at; is = λ i s st. sym (value_here i s st) }
 
     is_stable : IsStable p stable_paths
-    is_stable = (law p is stable_paths).1 (fitting_by p is law seats at each ways over sets values stable_paths levels
-        (λ i j ilt jlt up same. led.levels_are.once i j (omega (arith, ilt, size_levels)) (omega (arith, jlt, size_levels)) up same)
+    is_stable = (law p is stable_paths).1 (fitting_by p is law seats at each ways over sets values stable_paths ends ends_of levels
         (λ i s st.
         (let v = get_or more.0 i 0 in
         let inside = inside_at i s st in
-        (v, inside, get_or_default s.values.items v (stable_paths s.router) [] inside ∙ sym (value_here i s st)))) as_picked more.3)
+        (v, inside, get_or_default s.values.items v (stable_paths s.router) [] inside ∙ sym (value_here i s st)))) as_picked core_fits more.3)
 
     -- at a place that follows none nothing changed
     same_at : (i : ℕ) (s : Seat) → StandsAt seats i s → get_or levels i 0 ≡ 0 → stable_paths s.router ≡ full.0 s.router
@@ -249,7 +258,7 @@ module _ (p : Problem) (is : IsInstance p) (law : StableIsFitting) (seats : List
     same_paths : (u : ℕ) → IsRouter p.net.routers u → one u ≡ other u
     same_paths u router =
         let r = router_at p is law seats at each ways over sets values u router in
-        let same = same_everywhere ways led.wide levels led.levels_are ends one_values.pick other_values.pick (inside_wide one one_is) (inside_wide other other_is) (solved one one_is).fits (solved other other_is).fits same_low r.0
+        let same = same_everywhere ends led.wide levels led.levels_are within one_values.pick other_values.pick (inside_wide one one_is) (inside_wide other other_is) (at_ends one one_is) (at_ends other other_is) same_low r.0
         (let lt = r.2.0 in omega (arith, lt, size_levels)) in
         subst (λ (v : ℕ). one v ≡ other v) r.3 (sym (one_values.is r.0 r.1 r.2) ∙ ap (λ (v : ℕ). get_or r.1.values.items v []) same ∙ other_values.is r.0 r.1 r.2)
 
@@ -303,5 +312,5 @@ module _ (p : Problem) (is : IsInstance p) (law : StableIsFitting) (seats : List
         let o = led.needed (any.0, group.0, group.1.0, group.1.1, l) in
         let part = part_at o.0 o.2 in
         (o.0, part.0, part.1.0, part.1.1, open_part o.0 o.1 part.0 (o.2, o.3) part.1 o.4));
-    among = among p is law seats at each ways over sets values now narrows levels groups led found.parts of alive;
+    among = among p is law seats at each ways over sets values now narrows ends ends_of levels groups led found.parts of alive;
   }

@@ -1,12 +1,12 @@
 -- All stable assignments, part by part.
 use Rattle.std.specs.Prelude.{ℕ, ◌≡◌, ◌≢◌, ◌<◌, ◌≤◌, ◌*◌, ◌^◌, ◌↔◌, true, false, if◌then◌else◌, List, [], ◌∷◌, Option, Some, None, length, map, slice_index, slice_index_or}
 use Rattle.std.specs.List.{All, AllPairs, Any, Contains}
-use Rattle.ranked_policy.specs.Plans.{IsRouter}
-use Rattle.ranked_policy.specs.Policies.{Table, IsTableOf}
+use Rattle.ranked_policy.specs.Plans.{IsRouter, Linked}
+use Rattle.ranked_policy.specs.Policies.{Table, IsTableOf, Originates}
 use Rattle.stable_paths.specs.Stable.{Problem, IsStable}
 use Rattle.stable_search.specs.declared.every.Component.{Component}
 use Rattle.stable_search.specs.declared.every.Every.{Every}
-use Rattle.stable_search.specs.Fits.{MayStand, FitTogether}
+use Rattle.stable_search.specs.Fits.{MayStand, FitsAt, FitTogether}
 
 -- the paths that a pick stands for: of each router's paths the one at its place
 abbrev pub picked_paths : List (List (List ℕ)) → List ℕ → List (List ℕ)
@@ -58,8 +58,17 @@ AreChoices p may part =
     (paths : ℕ → List ℕ) → (HasChoice paths part
     ↔ ((u : ℕ) → Contains part.routers u → Contains (may u) (paths u)) × FitTogether p part.routers paths)
 
+-- a router of a part that has no choice or several, and doesn't follow
+abbrev pub Disputes : List Component → ℕ → Type 0
+Disputes parts u = Any (λ part. (part.follows ≡ false) × (length (choices_of part) ≢ 1) × Contains part.routers u) parts
+
+-- the router of a part that follows
+abbrev pub Trails : List Component → ℕ → Type 0
+Trails parts u = Any (λ part. (part.follows ≡ true) × Contains part.routers u) parts
+
 -- of each router some paths that it may have, at least one, among which is its path in each stable assignment: the
--- choices of each part are those of them that fit together
+-- choices of each part are those of them that fit together; to a router in dispute it doesn't matter which of its paths a
+-- peer has that follows
 pub record ChooseAmong (p : Problem) (parts : List Component) : Type 0 where
   pub may : ℕ → List (List ℕ)
   pub some : (u : ℕ) → IsRouter p.net.routers u → 0 < length (may u)
@@ -67,6 +76,9 @@ pub record ChooseAmong (p : Problem) (parts : List Component) : Type 0 where
       → (table : Table) × IsTableOf p.net u table × All (MayStand p.net.links p.prefix table) (may u)
   pub has : (paths : ℕ → List ℕ) → IsStable p paths → (u : ℕ) → IsRouter p.net.routers u → Contains (may u) (paths u)
   pub choices : All (AreChoices p may) parts
+  pub unmoved : (u v : ℕ) → Disputes parts u → Trails parts v → Linked p.net.links u v
+      → (table : Table) → IsTableOf p.net u table → (Originates table p.prefix table.router → ⊥)
+      → (path theirs : List ℕ) → Contains (may u) path → Contains (may v) theirs → FitsAt table p.prefix v path theirs
 
 -- a stable assignment has one of the choices of each part, and any choices of the parts that don't follow are had in
 -- exactly one; each router is in one part; parts stand by their least routers

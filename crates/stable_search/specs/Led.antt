@@ -17,11 +17,11 @@ IsOpen levels group = (IsLed levels group → ⊥) × (length group.picks ≢ 1)
 
 -- groups of the places that follow none, and each place that follows by itself. Which ones follow is seen of sets of
 -- which these are the narrowed ones
-pub record AreLed (ways : List Way) (old now levels : List ℕ) (groups : List Group) : Type 0 where
+pub record AreLed (ways ends : List Way) (old now levels : List ℕ) (groups : List Group) : Type 0 where
   pub wide : List ℕ
   pub before : Narrows ways old wide
   pub narrowed : Narrows ways wide now
-  pub levels_are : AreLevels ways wide levels
+  pub levels_are : AreLevels ends wide levels
   pub core : List Way
   pub keeps : KeepsPart levels 0 ways core
   pub copies : AreCopies levels 0 ways core
@@ -31,11 +31,12 @@ pub record AreLed (ways : List Way) (old now levels : List ℕ) (groups : List G
   pub needed : Any (IsLed levels) groups → Any (IsOpen levels) groups
 
 -- such groups, none with more picks than so many
-abbrev pub HaveLed : List Way → List ℕ → List ℕ → List ℕ → ℕ → List Group → Type 0
-HaveLed ways old now levels most groups =
-    AreLed ways old now levels groups × All (λ group. length group.picks ≤ most) groups
+abbrev pub HaveLed : List Way → List Way → List ℕ → List ℕ → List ℕ → ℕ → List Group → Type 0
+HaveLed ways ends old now levels most groups =
+    AreLed ways ends old now levels groups × All (λ group. length group.picks ≤ most) groups
 
 -- the groups that a search finds of sets that are narrowed, but for their last values; or its refusal
-abbrev pub FindsLed : List Seat → List Way → List ℕ → ℕ → Result Grouping SearchError → Type 0
-FindsLed seats ways sets most (Ok it) = (now : List ℕ) × (AllSome sets → AllSome now) × HaveLed ways sets now it.levels.items most it.groups.items
-FindsLed seats ways sets most (Err why) = RefusesPlaces seats ways sets most why
+abbrev pub FindsLed : List Seat → List Way → List Way → List ℕ → ℕ → Result Grouping SearchError → Type 0
+FindsLed seats ways ends sets most (Ok it) =
+    (now : List ℕ) × (AllSome sets → AllSome now) × HaveLed ways ends sets now it.levels.items most it.groups.items
+FindsLed seats ways ends sets most (Err why) = RefusesPlaces seats ways sets most why

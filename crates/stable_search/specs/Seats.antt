@@ -90,3 +90,24 @@ HasWaysFrom links seats ways from =
 pub record AreWaysOf (links : List Link) (seats : List Seat) (ways : List Way) : Type 0 where
   pub each : All (IsWayOf links seats) ways
   pub all : (from : ℕ) → from < length seats → HasWaysFrom links seats ways from
+
+-- the sets say which values of the second of two seats fit those of the first at the second router
+pub record SayWhatFitsEnd (one other : Seat) (fits : List ℕ) : Type 0 where
+  pub size : length fits ≡ length one.values.items
+  pub exact : (a b : ℕ) → a < length one.values.items → b < length other.values.items
+      → (Has (slice_index fits a) b
+      ↔ FitsEnd other one.router (slice_index_or other.values.items b []) (slice_index_or one.values.items a []))
+
+-- the second end of a link between two of the seats
+pub record IsEndOf (links : List Link) (seats : List Seat) (end : Way) : Type 0 where
+  pub one : Seat
+  pub other : Seat
+  pub from : StandsAt seats end.from one
+  pub to : StandsAt seats end.to other
+  pub linked : Linked links one.router other.router
+  pub fits : SayWhatFitsEnd one other end.fits.items
+
+-- these are both ends of each link between the seats
+pub record AreEndsOf (links : List Link) (seats : List Seat) (ends : List Way) : Type 0 where
+  pub each : All (IsEndOf links seats) ends
+  pub all : (from : ℕ) → from < length seats → HasWaysFrom links seats ends from

@@ -1,25 +1,25 @@
-//! Places that follow others: whatever values these have, exactly one value of the place fits.
+//! Places that follow others together: whatever values these have, the followers can have values that fit in exactly one
+//! way, and none of these matters to the others.
 
 ghost use Rattle.std.specs.Prelude.{◌≡◌, ◌≢◌, ◌↔◌, ◌<◌, ℕ, ⊤, IsTrue, IfOk, IfSome, OnOk, MatchOption, length, slice_index};
 ghost use Rattle.std.specs.List.{All, Contains};
 ghost use Rattle.std.specs.Int.RustNames.{bit_and};
-ghost use Rattle.stable_search.specs.Following.{IsLow, IsHeard, Follows, AreLevels, AreMet};
-ghost use Rattle.stable_search.specs.Picks.{Has, IsOnly, IsWithin, AreWithin};
+ghost use Rattle.stable_search.specs.Following.{IsHeard, Answers, FollowTogether, AreUnmoved, AreLevels, AreMet, IsRaised, IsBesides, IsNear, Tells, IsSettled, Settles};
+ghost use Rattle.stable_search.specs.Picks.{Has, IsOnly, AreWithin};
 ghost use Rattle.stable_search.specs.declared.way.Way.{Way};
 
-use crate::parting::fitting;
+use crate::parting::{are_in, fitting, is_free};
 use crate::picking::only_value;
-use crate::relating::is_unmoved;
-use crate::seat::Seat;
 use crate::way::{Way, has};
 use std::alloc::{AllocError, Global};
 
-// Whether a way leads to the place from another one that follows none.
-fn is_heard(way: &Way, levels: &[usize], place: usize) -> bool
-    requires { way.now.from < length levels.now }
-    ensures { IsTrue result ↔ IsHeard (IsLow levels.now place) place way.now }
+// ---- one place
+
+// Whether it is an end at the place, over a link to another one.
+fn is_heard(end: &Way, place: usize) -> bool
+    ensures { IsTrue result ↔ IsHeard place end.now }
 {
-    way.to == place && way.from != place && levels[way.from] == 0
+    end.to == place && end.from != place
 }
 
 // Adds a set, unless it is there; `false` if it is empty, or there are too many.
@@ -51,9 +51,9 @@ fn add_common(sets: &[u64], values: u64, met: &mut Vec<u64>) -> Result<bool, All
     Ok(true)
 }
 
-// Adds what each set has in common with the values that fit this one of the way's first place, if that place has it.
+// Adds what each set has in common with the values that fit this one of the end's first place, if that place has it.
 fn add_met(
-    way: &Way,
+    end: &Way,
     theirs: u64,
     value: usize,
     sets: &[u64],
@@ -62,27 +62,27 @@ fn add_met(
     requires { value < 64 }
     ensures kept { IfOk result (λ all. (other : ℕ) → Contains met.old.items other → Contains met.new.items other) }
     ensures added { IfOk result (λ all. IsTrue all → Has theirs value → (set : ℕ) → Contains sets.now set
-        → Contains met.new.items (bit_and set (slice_index way.now.fits.items value))) }
+        → Contains met.new.items (bit_and set (slice_index end.now.fits.items value))) }
 {
     if !has(theirs, value) {
         return Ok(true);
     }
-    add_common(sets, fitting(way, value), met)
+    add_common(sets, fitting(end, value), met)
 }
 
-// What each set has in common with the values that fit one of the way's first place; `None` if that is nothing once, or
+// What each set has in common with the values that fit one of the end's first place; `None` if that is nothing once, or
 // too many sets.
 fn met_over(
     alloc: Global,
-    way: &Way,
+    end: &Way,
     theirs: u64,
     sets: &[u64],
 ) -> Result<Option<Vec<u64>>, AllocError>
-    ensures { IfOk result (λ found. MatchOption found ⊤ (λ met. AreMet way.now theirs sets.now met.items)) }
+    ensures { IfOk result (λ found. MatchOption found ⊤ (λ met. AreMet end.now theirs sets.now met.items)) }
 {
     let mut met = Vec::new(alloc);
     for value in 0..64 {
-        if !add_met(way, theirs, value, sets, &mut met)? {
+        if !add_met(end, theirs, value, sets, &mut met)? {
             return Ok(None);
         }
     }
@@ -111,30 +111,17 @@ fn are_single(sets: &[u64]) -> bool
     true
 }
 
-// Whether no value of the place matters to the places that follow none, and, whatever values these have, exactly one value
-// of the place fits over the ways from them.
-fn follows(
-    alloc: Global,
-    seats: &[Seat],
-    ways: &[Way],
-    sets: &[u64],
-    levels: &[usize],
-    place: usize,
-) -> Result<bool, AllocError>
-    requires seats { length seats.now ≡ length sets.now }
-    requires within { AreWithin (length sets.now) ways.now }
-    requires size { length levels.now ≡ length sets.now }
+// Whether exactly one value of the place fits at its ends, whatever values the other places have.
+fn answers(alloc: Global, ends: &[Way], sets: &[u64], place: usize) -> Result<bool, AllocError>
+    requires within { AreWithin (length sets.now) ends.now }
     requires place { place < length sets.now }
-    ensures { IfOk result (λ follows. IsTrue follows → Follows ways.now sets.now (IsLow levels.now place) place) }
+    ensures { IfOk result (λ answers. IsTrue answers → Answers ends.now sets.now place) }
 {
     let mut left = Vec::new(alloc);
     left.push(sets[place])?;
-    for way in ways {
-        if is_heard(way, levels, place) {
-            if !is_unmoved(&seats[way.from], &seats[place], sets[way.from], sets[place]) {
-                return Ok(false);
-            }
-            match met_over(alloc, way, sets[way.from], left.as_slice())? {
+    for end in ends {
+        if is_heard(end, place) {
+            match met_over(alloc, end, sets[end.from], left.as_slice())? {
                 Some(met) => left = met,
                 None => return Ok(false),
             }
@@ -143,27 +130,394 @@ fn follows(
     Ok(are_single(left.as_slice()))
 }
 
-// A place with two values or more that follows others, which follow none.
-fn next_follower(
+// Whether each place of a level has exactly one value that fits at its ends, whatever values the other places have.
+fn all_answer(
     alloc: Global,
-    seats: &[Seat],
-    ways: &[Way],
+    ends: &[Way],
     sets: &[u64],
     levels: &[usize],
-) -> Result<Option<usize>, AllocError>
-    requires seats { length seats.now ≡ length sets.now }
-    requires within { AreWithin (length sets.now) ways.now }
+    level: usize,
+) -> Result<bool, AllocError>
+    requires within { AreWithin (length sets.now) ends.now }
     requires size { length levels.now ≡ length sets.now }
-    ensures { IfOk result (λ found. IfSome found (λ place. (place < length sets.now)
-        × (slice_index levels.now place ≡ 0) × Follows ways.now sets.now (IsLow levels.now place) place)) }
+    ensures { IfOk result (λ all. IsTrue all → (place : ℕ) → place < length sets.now
+        → slice_index levels.now place ≡ level → Answers ends.now sets.now place) }
 {
-    for (place, set) in sets.iter().enumerate() {
-        if levels[place] == 0
-            && set.count_ones() > 1
-            && follows(alloc, seats, ways, sets, levels, place)?
-        {
-            return Ok(Some(place));
+    for (place, has) in levels.iter().enumerate() {
+        if *has == level && !answers(alloc, ends, sets, place)? {
+            return Ok(false);
         }
+    }
+    Ok(true)
+}
+
+// ---- places that settle
+
+// The values of an end's first place, out of a set, that fit this value of its other place; and the values that fit one of
+// them.
+fn besides(end: &Way, theirs: u64, value: usize) -> (u64, u64)
+    requires { value < 64 }
+    ensures { IsBesides end.now theirs value result.0 result.1 }
+{
+    let mut partners = 0;
+    let mut rivals = 0;
+    for their in 0..64 {
+        let fits = fitting(end, their);
+        if has(theirs, their) && has(fits, value) {
+            partners |= 1 << their;
+            rivals |= fits;
+        }
+    }
+    (partners, rivals)
+}
+
+// Whether an end at the place tells something of its value: the other place is of a lower level, or of the same one, and
+// then all these values of it are settled.
+fn is_near(end: &Way, levels: &[usize], settled: &[u64], place: usize, partners: u64) -> bool
+    requires from { end.now.from < length levels.now }
+    requires place { place < length levels.now }
+    requires size { length settled.now ≡ length levels.now }
+    ensures { IsTrue result → IsNear levels.now settled.now place partners end.now }
+{
+    let level = levels[place];
+    let theirs = levels[end.from];
+    theirs < level || (theirs == level && are_in(partners, settled[end.from]))
+}
+
+// The other values of a set than this one, but for settled ones.
+fn rivals_of(set: u64, settled: u64, value: usize) -> u64
+    requires { value < 64 }
+    ensures { (rival : ℕ) → rival < 64 → Has set rival → (Has settled rival → ⊥) → rival ≢ value → Has result rival }
+{
+    let open = set ^ (set & settled);
+    open & !(1 << value)
+}
+
+// Whether what is settled tells where the place has this value: no other one, but for settled ones, fits where it does.
+fn is_told(
+    ends: &[Way],
+    sets: &[u64],
+    levels: &[usize],
+    settled: &[u64],
+    place: usize,
+    value: usize,
+) -> bool
+    requires within { AreWithin (length sets.now) ends.now }
+    requires size { length levels.now ≡ length sets.now }
+    requires settled { length settled.now ≡ length levels.now }
+    requires place { place < length sets.now }
+    requires value { value < 64 }
+    ensures { IsTrue result → Tells ends.now sets.now levels.now settled.now place value }
+{
+    let mut left = rivals_of(sets[place], settled[place], value);
+    for end in ends {
+        if is_heard(end, place) {
+            let (partners, rivals) = besides(end, sets[end.from], value);
+            if is_near(end, levels, settled, place, partners) {
+                left &= rivals;
+            }
+        }
+    }
+    left == 0
+}
+
+// Settles a value of a place.
+fn settle(place: usize, value: usize, settled: &mut Vec<u64>)
+    requires place { place < length settled.old.items }
+    requires value { value < 64 }
+    ensures { IsSettled settled.old.items place value settled.new.items }
+{
+    settled[place] |= 1 << value;
+}
+
+// Settles the values of a place that what is settled tells, and answers whether there were any.
+fn settle_place(
+    ends: &[Way],
+    sets: &[u64],
+    levels: &[usize],
+    place: usize,
+    settled: &mut Vec<u64>,
+) -> bool
+    requires within { AreWithin (length sets.now) ends.now }
+    requires size { length levels.now ≡ length sets.now }
+    requires place { place < length sets.now }
+    requires answers { (other : ℕ) → other < length sets.now
+        → slice_index levels.now other ≡ slice_index levels.now place → Answers ends.now sets.now other }
+    requires before { Settles ends.now sets.now levels.now (slice_index levels.now place) settled.old.items }
+    ensures { Settles ends.now sets.now levels.now (slice_index levels.now place) settled.new.items }
+{
+    let mut some = false;
+    for value in 0..64 {
+        if has(sets[place], value)
+            && !has(settled[place], value)
+            && is_told(ends, sets, levels, settled.as_slice(), place, value)
+        {
+            settle(place, value, settled);
+            some = true;
+        }
+    }
+    some
+}
+
+// Settles, place by place, the values of a level that what is settled tells, and answers whether there were any.
+fn settle_each(
+    ends: &[Way],
+    sets: &[u64],
+    levels: &[usize],
+    level: usize,
+    settled: &mut Vec<u64>,
+) -> bool
+    requires within { AreWithin (length sets.now) ends.now }
+    requires size { length levels.now ≡ length sets.now }
+    requires answers { (place : ℕ) → place < length sets.now → slice_index levels.now place ≡ level
+        → Answers ends.now sets.now place }
+    requires before { Settles ends.now sets.now levels.now level settled.old.items }
+    ensures { Settles ends.now sets.now levels.now level settled.new.items }
+{
+    let mut some = false;
+    for (place, has) in levels.iter().enumerate() {
+        if *has == level {
+            some |= settle_place(ends, sets, levels, place, settled);
+        }
+    }
+    some
+}
+
+// Whether all values of each place of a level are settled.
+fn are_settled(sets: &[u64], levels: &[usize], level: usize, settled: &[u64]) -> bool
+    requires size { length levels.now ≡ length sets.now }
+    requires settled { length settled.now ≡ length levels.now }
+    ensures { IsTrue result → (place value : ℕ) → place < length sets.now → slice_index levels.now place ≡ level
+        → Has (slice_index sets.now place) value → Has (slice_index settled.now place) value }
+{
+    for (place, has) in levels.iter().enumerate() {
+        if *has == level && !are_in(sets[place], settled[place]) {
+            return false;
+        }
+    }
+    true
+}
+
+// The most values of 64 places. A round that settles none ends the settling before.
+const ROUNDS: usize = 64 * 64;
+
+// Whether the values of the places of a level settle one after the other, from those of lower levels on.
+fn settles(
+    alloc: Global,
+    ends: &[Way],
+    sets: &[u64],
+    levels: &[usize],
+    level: usize,
+) -> Result<bool, AllocError>
+    requires within { AreWithin (length sets.now) ends.now }
+    requires size { length levels.now ≡ length sets.now }
+    requires answers { (place : ℕ) → place < length sets.now → slice_index levels.now place ≡ level
+        → Answers ends.now sets.now place }
+    ensures { IfOk result (λ all. IsTrue all → FollowTogether ends.now sets.now levels.now level) }
+{
+    let mut settled = none_settled(alloc, sets.len())?;
+    for _round in 0..ROUNDS {
+        if !settle_each(ends, sets, levels, level, &mut settled) {
+            break;
+        }
+    }
+    Ok(are_settled(sets, levels, level, settled.as_slice()))
+}
+
+// No value of so many places is settled.
+fn none_settled(alloc: Global, count: usize) -> Result<Vec<u64>, AllocError>
+    ensures { IfOk result (λ settled. (length settled.items ≡ count)
+        × ((place : ℕ) → slice_index settled.items place ≡ 0)) }
+{
+    let mut settled = Vec::with_capacity(alloc, count)?;
+    for _place in 0..count {
+        settled.push(0)?;
+    }
+    Ok(settled)
+}
+
+// ---- levels
+
+// Whether no place has a value that matters to a place of a lower level.
+fn are_unmoved(ends: &[Way], sets: &[u64], levels: &[usize]) -> bool
+    requires within { AreWithin (length sets.now) ends.now }
+    requires size { length levels.now ≡ length sets.now }
+    ensures { IsTrue result → AreUnmoved ends.now sets.now levels.now }
+{
+    for end in ends {
+        if levels[end.to] < levels[end.from] && !is_free(end, sets) {
+            return false;
+        }
+    }
+    true
+}
+
+// Whether the places of a level follow together those of lower levels, and no value matters to a place of a lower level.
+fn follow_together(
+    alloc: Global,
+    ends: &[Way],
+    sets: &[u64],
+    levels: &[usize],
+    level: usize,
+) -> Result<bool, AllocError>
+    requires within { AreWithin (length sets.now) ends.now }
+    requires size { length levels.now ≡ length sets.now }
+    ensures { IfOk result (λ follow. IsTrue follow
+        → AreUnmoved ends.now sets.now levels.now × FollowTogether ends.now sets.now levels.now level) }
+{
+    if !are_unmoved(ends, sets, levels) {
+        return Ok(false);
+    }
+    if !all_answer(alloc, ends, sets, levels, level)? {
+        return Ok(false);
+    }
+    settles(alloc, ends, sets, levels, level)
+}
+
+// For each end, whether a value of its first place matters to the other.
+fn all_moved(alloc: Global, ends: &[Way], sets: &[u64]) -> Result<Vec<bool>, AllocError>
+    requires { AreWithin (length sets.now) ends.now }
+    ensures { IfOk result (λ moved. length moved.items ≡ length ends.now) }
+{
+    let mut moved = Vec::with_capacity(alloc, ends.len())?;
+    for end in ends {
+        moved.push(!is_free(end, sets))?;
+    }
+    Ok(moved)
+}
+
+// Gives the level to each place that follows none and to which a place of the level matters, and answers whether there
+// was one.
+fn raise_each(ends: &[Way], moved: &[bool], level: usize, levels: &mut Vec<usize>) -> bool
+    requires within { AreWithin (length levels.old.items) ends.now }
+    requires moved { length moved.now ≡ length ends.now }
+    ensures { IsRaised levels.old.items level levels.new.items }
+{
+    let mut some = false;
+    for (k, end) in ends.iter().enumerate() {
+        if moved[k] && levels[end.from] == level && levels[end.to] == 0 {
+            levels[end.to] = level;
+            some = true;
+        }
+    }
+    some
+}
+
+// The levels with this one for a place, and for each to which such a one matters.
+fn raised_behind(
+    alloc: Global,
+    ends: &[Way],
+    moved: &[bool],
+    levels: &[usize],
+    level: usize,
+    place: usize,
+) -> Result<Vec<usize>, AllocError>
+    requires within { AreWithin (length levels.now) ends.now }
+    requires moved { length moved.now ≡ length ends.now }
+    requires place { place < length levels.now }
+    requires none { slice_index levels.now place ≡ 0 }
+    ensures { IfOk result (λ raised. IsRaised levels.now level raised.items) }
+{
+    let mut raised = Vec::from_slice(alloc, levels)?;
+    raised[place] = level;
+    for _round in 0..levels.len() {
+        if !raise_each(ends, moved, level, &mut raised) {
+            break;
+        }
+    }
+    Ok(raised)
+}
+
+// How many places have the level; `None` if one of them is stuck.
+fn count_at(levels: &[usize], level: usize, stuck: &[bool]) -> Option<usize>
+    requires { length stuck.now ≡ length levels.now }
+{
+    let mut count = 0;
+    for (place, has) in levels.iter().enumerate() {
+        if *has == level {
+            if stuck[place] {
+                return None;
+            }
+            count += 1;
+        }
+    }
+    Some(count)
+}
+
+// The levels with this one for the fewest places: one with two values or more that follows none, and each to which such a
+// one matters; none of them is stuck.
+fn least_raised(
+    alloc: Global,
+    ends: &[Way],
+    moved: &[bool],
+    sets: &[u64],
+    levels: &[usize],
+    level: usize,
+    stuck: &[bool],
+) -> Result<Option<Vec<usize>>, AllocError>
+    requires within { AreWithin (length sets.now) ends.now }
+    requires moved { length moved.now ≡ length ends.now }
+    requires size { length levels.now ≡ length sets.now }
+    requires stuck { length stuck.now ≡ length sets.now }
+    ensures { IfOk result (λ found. IfSome found (λ raised. IsRaised levels.now level raised.items)) }
+{
+    let mut least = None;
+    let mut fewest = usize::MAX;
+    for (place, set) in sets.iter().enumerate() {
+        if levels[place] == 0 && set.count_ones() > 1 && !stuck[place] {
+            let raised = raised_behind(alloc, ends, moved, levels, level, place)?;
+            match count_at(raised.as_slice(), level, stuck) {
+                Some(1) => return Ok(Some(raised)),
+                Some(count) if count < fewest => {
+                    fewest = count;
+                    least = Some(raised);
+                }
+                _ => {}
+            }
+        }
+    }
+    Ok(least)
+}
+
+// Marks the places of the level as stuck.
+fn mark_stuck(levels: &[usize], level: usize, stuck: &mut Vec<bool>)
+    requires { length stuck.old.items ≡ length levels.now }
+    ensures { length stuck.new.items ≡ length stuck.old.items }
+{
+    for (place, has) in levels.iter().enumerate() {
+        if *has == level {
+            stuck[place] = true;
+        }
+    }
+}
+
+// The levels with this one for places that follow together places of lower levels. Places that don't are stuck.
+fn next_levels(
+    alloc: Global,
+    ends: &[Way],
+    moved: &[bool],
+    sets: &[u64],
+    levels: &[usize],
+    level: usize,
+    stuck: &mut Vec<bool>,
+) -> Result<Option<Vec<usize>>, AllocError>
+    requires within { AreWithin (length sets.now) ends.now }
+    requires moved { length moved.now ≡ length ends.now }
+    requires size { length levels.now ≡ length sets.now }
+    requires stuck { length stuck.old.items ≡ length sets.now }
+    ensures stuck { length stuck.new.items ≡ length stuck.old.items }
+    ensures next { IfOk result (λ found. IfSome found (λ next. IsRaised levels.now level next.items
+        × AreUnmoved ends.now sets.now next.items × FollowTogether ends.now sets.now next.items level)) }
+{
+    for _try in 0..sets.len() {
+        let Some(next) = least_raised(alloc, ends, moved, sets, levels, level, stuck.as_slice())?
+        else {
+            return Ok(None);
+        };
+        if follow_together(alloc, ends, sets, next.as_slice(), level)? {
+            return Ok(Some(next));
+        }
+        mark_stuck(next.as_slice(), level, stuck);
     }
     Ok(None)
 }
@@ -180,25 +534,42 @@ pub(crate) fn no_levels(alloc: Global, count: usize) -> Result<Vec<usize>, Alloc
     Ok(levels)
 }
 
-/// For each place its level: 0, if it follows none; else it follows places of lower levels. No two places that follow have
-/// one level.
-pub(crate) fn levels_of(
-    alloc: Global,
-    seats: &[Seat],
-    ways: &[Way],
-    sets: &[u64],
-) -> Result<Vec<usize>, AllocError>
-    requires seats { length seats.now ≡ length sets.now }
-    requires within { AreWithin (length sets.now) ways.now }
-    ensures { IfOk result (λ levels. AreLevels ways.now sets.now levels.items) }
+// So many places of which none is stuck.
+fn none_stuck(alloc: Global, count: usize) -> Result<Vec<bool>, AllocError>
+    ensures { IfOk result (λ stuck. length stuck.items ≡ count) }
+{
+    let mut stuck = Vec::with_capacity(alloc, count)?;
+    for _place in 0..count {
+        stuck.push(false)?;
+    }
+    Ok(stuck)
+}
+
+/// For each place its level: 0, if it follows none; else those of one level follow together places of lower levels.
+pub(crate) fn levels_of(alloc: Global, ends: &[Way], sets: &[u64]) -> Result<Vec<usize>, AllocError>
+    requires { AreWithin (length sets.now) ends.now }
+    ensures { IfOk result (λ levels. AreLevels ends.now sets.now levels.items) }
 {
     let count = sets.len();
     let mut levels = no_levels(alloc, count)?;
+    if are_single(sets) {
+        return Ok(levels);
+    }
+    let moved = all_moved(alloc, ends, sets)?;
+    let mut stuck = none_stuck(alloc, count)?;
     for step in 0..count {
-        let Some(place) = next_follower(alloc, seats, ways, sets, levels.as_slice())? else {
-            return Ok(levels);
-        };
-        levels[place] = count - step;
+        match next_levels(
+            alloc,
+            ends,
+            moved.as_slice(),
+            sets,
+            levels.as_slice(),
+            count - step,
+            &mut stuck,
+        )? {
+            Some(next) => levels = next,
+            None => return Ok(levels),
+        }
     }
     Ok(levels)
 }

@@ -268,9 +268,9 @@ fn led_groups(
     requires seats { length seats.now ≡ length sets.now }
     requires within { AreWithin (length sets.now) ways.now }
     requires levels { length levels.now ≡ length sets.now }
-    ensures found { IfOk result (λ found. IfSome found (λ groups. (old wide : List ℕ) → Narrows ways.now old wide
-        → Narrows ways.now wide sets.now → AreLevels ways.now wide levels.now
-        → HaveLed ways.now old sets.now levels.now limits.now.most groups.items)) }
+    ensures found { IfOk result (λ found. IfSome found (λ groups. (ends : List Way) (old wide : List ℕ)
+        → Narrows ways.now old wide → Narrows ways.now wide sets.now → AreLevels ends wide levels.now
+        → HaveLed ways.now ends old sets.now levels.now limits.now.most groups.items)) }
     ensures refused { IfErr result (RefusesPlaces seats.now ways.now sets.now limits.now.most) }
 {
     let core = ways_with(alloc, ways, levels, 0)?;
@@ -296,15 +296,17 @@ pub(crate) fn groups(
     alloc: Global,
     seats: &[Seat],
     ways: &[Way],
+    ends: &[Way],
     sets: &mut [u64],
     limits: &SearchLimits,
 ) -> Result<Grouping, SearchError>
     requires seats { length seats.now ≡ length sets.old }
     requires within { AreWithin (length sets.old) ways.now }
-    ensures { FindsLed seats.now ways.now sets.old limits.now.most result }
+    requires ends { AreWithin (length sets.old) ends.now }
+    ensures { FindsLed seats.now ways.now ends.now sets.old limits.now.most result }
 {
     narrow_some(alloc, ways, sets)?;
-    let levels = levels_of(alloc, seats, ways, sets)?;
+    let levels = levels_of(alloc, ends, sets)?;
     let first = first_groups(alloc, seats, ways, sets, limits)?;
     if let Some(groups) = led_groups(alloc, seats, ways, sets, levels.as_slice(), limits)? {
         return Ok(Grouping { groups, levels });

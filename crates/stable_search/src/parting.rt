@@ -22,15 +22,15 @@ pub(crate) fn fitting(way: &Way, value: usize) -> u64
     }
 }
 
-// Whether all values of one set are in another.
-fn are_in(values: u64, all: u64) -> bool
+/// Whether all values of one set are in another.
+pub(crate) fn are_in(values: u64, all: u64) -> bool
     ensures { result ≡ true → (value : ℕ) → Has values value → Has all value }
 {
     values & all == values
 }
 
-// Whether each value of a way's first place fits each value of its other place.
-fn is_free(way: &Way, sets: &[u64]) -> bool
+/// Whether each value of a way's first place fits each value of its other place.
+pub(crate) fn is_free(way: &Way, sets: &[u64]) -> bool
     requires { IsWithin (length sets.now) way.now }
     ensures { result ≡ true → IsFree sets.now way.now }
 {

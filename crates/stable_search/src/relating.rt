@@ -6,7 +6,7 @@ ghost use Rattle.ranked_policy.specs.Choosing.{chosen_permits, chosen_prefers};
 ghost use Rattle.ranked_policy.specs.Paths.{BeginsWith};
 ghost use Rattle.stable_search.specs.Picks.{Has};
 ghost use Rattle.stable_search.specs.Seats.{FitsBy, FitsEnd, FitsBoth, MarksPermitted, SayWhatFits};
-ghost use Rattle.stable_search.specs.Seats.{IsWayOf, HasWay, HasWaysFrom, AreWaysOf};
+ghost use Rattle.stable_search.specs.Seats.{IsWayOf, HasWay, HasWaysFrom, AreWaysOf, SayWhatFitsEnd, IsEndOf, AreEndsOf};
 ghost use Rattle.stable_search.specs.declared.seat.Seat.{Seat};
 
 use crate::seat::Seat;
@@ -183,23 +183,71 @@ pub(crate) fn ways_between(
     Ok(ways)
 }
 
-// Whether each path of the first seat out of a set fits this path of its peer, at the first router.
-fn is_unmoved_by(one: &Seat, other: &Seat, mine: u64, path: &Path) -> bool {
-    let is_permitted = permits_on(one, path);
-    for (value, own) in one.values.as_slice().iter().enumerate() {
-        if value < 64 && has(mine, value) && !fits_end(one, other.router, own, path, is_permitted) {
-            return false;
+// The values of the second seat that fit a path of the first at the second router.
+fn fitting_end(one: &Seat, other: &Seat, path: &Path) -> u64
+    requires { length other.now.values.items < 64 }
+    ensures { (b : ℕ) → b < length other.now.values.items → (Has result b
+        ↔ FitsEnd other.now one.now.router (slice_index_or other.now.values.items b []) path.now) }
+{
+    let is_permitted = permits_on(other, path);
+    let mut fits = 0;
+    for (value, own) in other.values.as_slice().iter().enumerate() {
+        if fits_end(other, one.router, own, path, is_permitted) {
+            fits |= 1 << value;
         }
     }
-    true
+    fits
 }
 
-/// Whether each path of the first seat out of a set fits, at the first router, each path of its peer out of another.
-pub(crate) fn is_unmoved(one: &Seat, other: &Seat, mine: u64, theirs: u64) -> bool {
-    for (value, path) in other.values.as_slice().iter().enumerate() {
-        if value < 64 && has(theirs, value) && !is_unmoved_by(one, other, mine, path) {
-            return false;
+// For each value of the first seat, the values of the second that fit it at the second router.
+fn what_fits_end(alloc: Global, one: &Seat, other: &Seat) -> Result<Vec<u64>, AllocError>
+    requires { length other.now.values.items < 64 }
+    ensures { IfOk result (λ fits. SayWhatFitsEnd one.now other.now fits.items) }
+{
+    let mut fits = Vec::with_capacity(alloc, one.values.len())?;
+    for path in one.values.as_slice() {
+        fits.push(fitting_end(one, other, path))?;
+    }
+    Ok(fits)
+}
+
+// Adds the ends at the peers of the router at a place.
+fn add_ends(
+    alloc: Global,
+    network: &Network,
+    seats: &[Seat],
+    from: usize,
+    ends: &mut Vec<Way>,
+) -> Result<(), AllocError>
+    requires from { from < length seats.now }
+    requires few { All (λ seat. length seat.values.items < 64) seats.now }
+    ensures each { All (IsEndOf network.now.links seats.now) ends.old.items
+        → OnOk result (All (IsEndOf network.now.links seats.now) ends.new.items) }
+    ensures kept { OnOk result ((one other : ℕ) → HasWay ends.old.items one other → HasWay ends.new.items one other) }
+    ensures all { OnOk result (HasWaysFrom network.now.links seats.now ends.new.items from) }
+{
+    let one = &seats[from];
+    for (to, other) in seats.iter().enumerate() {
+        if network.linked(one.router, other.router) {
+            let fits = what_fits_end(alloc, one, other)?;
+            ends.push(Way { from, to, fits })?;
         }
     }
-    true
+    Ok(())
+}
+
+/// The ends of all links: for each path of the router at one place, which paths fit it at the other router.
+pub(crate) fn ends_between(
+    alloc: Global,
+    network: &Network,
+    seats: &[Seat],
+) -> Result<Vec<Way>, AllocError>
+    requires few { All (λ seat. length seat.values.items < 64) seats.now }
+    ensures { IfOk result (λ ends. AreEndsOf network.now.links seats.now ends.items) }
+{
+    let mut ends = Vec::new(alloc);
+    for from in 0..seats.len() {
+        add_ends(alloc, network, seats, from, &mut ends)?;
+    }
+    Ok(ends)
 }

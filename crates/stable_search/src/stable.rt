@@ -19,7 +19,7 @@ use crate::limits::SearchLimits;
 use crate::listing::list_open;
 use crate::reach::reaches;
 use crate::refusal::SearchError;
-use crate::relating::ways_between;
+use crate::relating::{ends_between, ways_between};
 use crate::seat::{Seat, routers_at, seats};
 use ranked_policy::{NetItems, Path};
 use stable_paths::Instance;
@@ -158,11 +158,13 @@ pub fn stable_assignments(
     let network = instance.network();
     let seats = all_seats(alloc, instance)?;
     let ways = ways_between(alloc, network, seats.as_slice())?;
+    let ends = ends_between(alloc, network, seats.as_slice())?;
     let mut sets = all_values(alloc, seats.as_slice())?;
     let grouping = groups(
         alloc,
         seats.as_slice(),
         ways.as_slice(),
+        ends.as_slice(),
         sets.as_mut_slice(),
         limits,
     )?;

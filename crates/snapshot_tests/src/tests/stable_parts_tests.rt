@@ -1,5 +1,5 @@
 //! Into which parts a search lets routers fall (`stable_search`): a router that has one path in all choices is
-//! a part by itself, and so is one that follows others.
+//! a part by itself, and so is one that follows others, alone or together with some.
 
 use super::networks::{Links, Plan, Rule, THREE_OVER_TWO, TRIANGLE, TWO_OVER_THREE, network};
 use super::searches::{LIMITS, found};
@@ -45,6 +45,38 @@ static BETWEEN_TWO: Plan = Plan {
         &[&[8, 7, 1], &[8, 1]],
         &[&[9, 7, 8, 1], &[9, 8, 7, 1], &[9, 5, 1]],
     ],
+};
+
+/// 2 and 3 disagree; 4 is behind 2 and 5 behind 3, and each has a way through the other.
+static TOGETHER: Plan = Plan {
+    routers: 5,
+    links: &[TRIANGLE, &[(2, 4), (3, 5), (4, 5)]],
+    rules: &[
+        TWO_OVER_THREE,
+        THREE_OVER_TWO,
+        &[&[4, 2, 1], &[4, 5, 3, 1], &[4, 2, 3, 1]],
+        &[&[5, 3, 1], &[5, 4, 2, 1], &[5, 3, 2, 1]],
+    ],
+};
+
+/// A mesh of routers without a rule behind 2, which disagrees with 3: 6 and 7 have ways through each other.
+static MESH: Plan = Plan {
+    routers: 8,
+    links: &[
+        TRIANGLE,
+        &[
+            (2, 4),
+            (2, 8),
+            (4, 5),
+            (4, 8),
+            (5, 6),
+            (5, 7),
+            (6, 7),
+            (6, 8),
+            (7, 8),
+        ],
+    ],
+    rules: &[TWO_OVER_THREE, THREE_OVER_TWO],
 };
 
 // Whether the parts have these routers, so many choices, and follow.
@@ -105,6 +137,39 @@ fn one_path_between_two_disputes(rt: HostRuntime) -> Result<(), NetError> {
             (&[6], 1, false),
             (&[7, 8], 2, false),
             (&[9], 2, true),
+        ],
+    )
+}
+
+#[test]
+fn two_follow_together(rt: HostRuntime) -> Result<(), NetError> {
+    has_parts(
+        &rt,
+        rt.alloc(),
+        &TOGETHER,
+        &[
+            (&[1], 1, false),
+            (&[2, 3], 2, false),
+            (&[4], 2, true),
+            (&[5], 2, true),
+        ],
+    )
+}
+
+#[test]
+fn a_mesh_follows(rt: HostRuntime) -> Result<(), NetError> {
+    has_parts(
+        &rt,
+        rt.alloc(),
+        &MESH,
+        &[
+            (&[1], 1, false),
+            (&[2, 3], 2, false),
+            (&[4], 2, true),
+            (&[5], 2, true),
+            (&[6], 2, true),
+            (&[7], 2, true),
+            (&[8], 2, true),
         ],
     )
 }

@@ -8,4 +8,4 @@ use Rattle.stable_search.proofs.following.met_over.Given as goal
 abbrev pub invariant-loop-value : goal.invariant-loop-value
 invariant-loop-value l =
     (value : ℕ) → value < l.value → Has l.theirs value → (set : ℕ) → Contains l.sets set
-    → Contains l.met.items (bit_and set (get_or l.way.fits.items value 0))
+    → Contains l.met.items (bit_and set (get_or l.end.fits.items value 0))

@@ -34,9 +34,10 @@ returns-in-Some c =
     let levels = c.in_ok-levels.levels.items in
     let groups = c.in-Some.groups.items in
     let found = rw c.in-Some.is at c.in_ok-groups.ensures.found in
-    let have : HaveLed ways c.args.sets.now c.first_groups.new.sets levels c.args.limits.now.most groups =
-    subst (λ (ls : List ℕ). HaveLed ways c.args.sets.now c.first_groups.new.sets ls c.args.limits.now.most groups) c.as_slice.ensures.value
-    (found c.args.sets.now c.narrow_some.new.sets c.in_ok-narrow_some.ensures.narrows c.in_ok-first.ensures.narrows (subst (AreLevels ways c.narrow_some.new.sets) (sym c.as_slice.ensures.value) c.in_ok-levels.ensures)) in
+    let ends = c.args.ends.now in
+    let have : HaveLed ways ends c.args.sets.now c.first_groups.new.sets levels c.args.limits.now.most groups =
+    subst (λ (ls : List ℕ). HaveLed ways ends c.args.sets.now c.first_groups.new.sets ls c.args.limits.now.most groups) c.as_slice.ensures.value
+    (found ends c.args.sets.now c.narrow_some.new.sets c.in_ok-narrow_some.ensures.narrows c.in_ok-first.ensures.narrows (subst (AreLevels ends c.narrow_some.new.sets) (sym c.as_slice.ensures.value) c.in_ok-levels.ensures)) in
     (c.first_groups.new.sets, (λ all. c.in_ok-first.ensures.some (c.in_ok-narrow_some.ensures.some all)), have)
 
 pub returns-in-Some-first : goal.returns-in-Some-first
@@ -46,7 +47,7 @@ returns-in-Some-first c =
     let groups = c.in-Some-first.groups.items in
     let found : HaveGroups ways sets c.args.limits.now.most groups = rw c.in-Some-first.is at c.in_ok-first.ensures.found in
     let size : length c.in_ok-levels-2.levels.items ≡ length sets = c.in_ok-levels-2.ensures.0 ∙ c.in_ok-first.ensures.narrows.size in
-    (sets, c.in_ok-narrow_some.ensures.some, (led_by_none ways c.args.sets.now sets c.in_ok-levels-2.levels.items groups c.in_ok-narrow_some.ensures.narrows size c.in_ok-levels-2.ensures.1 found.0, found.1))
+    (sets, c.in_ok-narrow_some.ensures.some, (led_by_none ways c.args.ends.now c.args.sets.now sets c.in_ok-levels-2.levels.items groups c.in_ok-narrow_some.ensures.narrows size c.in_ok-levels-2.ensures.1 found.0, found.1))
 
 pub returns : goal.returns
 returns c =
@@ -56,5 +57,5 @@ returns c =
     let before = narrows_then ways c.args.sets.now c.narrow_some.new.sets c.first_groups.new.sets c.in_ok-narrow_some.ensures.narrows c.in_ok-first.ensures.narrows in (
       c.first_groups.new.sets,
       (λ all. c.in_ok-first.ensures.some (c.in_ok-narrow_some.ensures.some all)),
-      (led_by_none ways c.args.sets.now c.first_groups.new.sets c.in_ok-levels-2.levels.items groups before c.in_ok-levels-2.ensures.0 c.in_ok-levels-2.ensures.1 have.0, have.1),
+      (led_by_none ways c.args.ends.now c.args.sets.now c.first_groups.new.sets c.in_ok-levels-2.levels.items groups before c.in_ok-levels-2.ensures.0 c.in_ok-levels-2.ensures.1 have.0, have.1),
     )
