@@ -60,8 +60,7 @@ def remark_of(body: Octets, width: int, identified: Collection[str] = ()) -> str
     update = Update(body)
     attributes = update.attributes
     if not update.withdrawn and not update.announced:
-        ended = family_of_end(attributes)
-        if ended:
+        if ended := family_of_end(attributes):
             return f"End-of-RIB {ended}"
     said = {AS_PATH, NEXT_HOP} if update.announced else set()
     if attributes.get(ORIGIN) == b"\0":

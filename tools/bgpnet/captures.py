@@ -88,8 +88,7 @@ def frames_of_blocks(data: Octets, losses: list[str]) -> Iterator[Frame]:
             kept, whole = interfaces[0][1], struct.unpack_from(order + "I", data, at + 8)[0]
         if kept < whole:
             short.append(kept)
-        frame = frame_of_block(order, kind, data[at + 8:at + size - 4], interfaces)
-        if frame:
+        if frame := frame_of_block(order, kind, data[at + 8:at + size - 4], interfaces):
             yield frame
         at += size
     losses += short_losses(short)

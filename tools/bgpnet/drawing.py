@@ -151,8 +151,7 @@ class Picture(Canvas):
             if len(best) > 1:
                 self.arrow(router, best[1], "wanted")
         for link in self.network.links:
-            seconds = self.drawn.silent.get(frozenset(link))
-            if seconds:
+            if seconds := self.drawn.silent.get(frozenset(link)):
                 x, y = (round(number) for number in along(self.layout.curve(*link), 0.5))
                 self.add("text", f"{seconds} s", class_="seconds", x=x, y=y + 4)
         for router in self.network.routers:

@@ -96,8 +96,7 @@ def over_link(network: Network, chosen: Chosen, without: Collection[Ends]) -> Ju
     """The first path over one of some links, in words."""
     for router in network.routers:
         path = chosen.get(router, ())
-        gone = next((link for link in zip(path, path[1:]) if frozenset(link) in without), None)
-        if gone:
+        if gone := next((link for link in zip(path, path[1:]) if frozenset(link) in without), None):
             return Judged(f"{network.name_of(router)} has {network.path_text(path)}, over the link "
                           f"{network.link_text(gone)} that is down", False)
     return None

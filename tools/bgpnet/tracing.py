@@ -65,8 +65,7 @@ def read_row(line: str) -> Row:
     """The line of a trace behind `schedule`, or of a part of one."""
     if not line.startswith("#"):
         return Row(Kind.EVENT, line)
-    found = OF_A_LINE.fullmatch(line)
-    if found:
+    if found := OF_A_LINE.fullmatch(line):
         number, times, rest, behind = found.groups()
         if times:
             return Row(Kind.BEGUN, line, int(number))

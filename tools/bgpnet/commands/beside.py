@@ -238,8 +238,7 @@ def compare(text, kinds):
         for name, made in make(asked.seed, asked.of).items():
             pathlib.Path(asked.write, name).write_bytes(made.encode("latin-1"))
         return 0
-    lacks = missing(asked)
-    if lacks:
+    if lacks := missing(asked):
         print(f"{lacks}: nothing is compared")
         return 1
     program = Program(asked.program)

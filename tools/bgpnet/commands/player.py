@@ -40,8 +40,7 @@ def rules_of(network):
     places = {}
     for router in network.routers:
         for prefix in network.origins:
-            rule = network.rule(router, prefix)
-            if rule:
+            if rule := network.rule(router, prefix):
                 if (router, rule.line) not in places:
                     places[router, rule.line] = len(lists)
                     lists.append(["-".join(map(str, path)) for path in rule.paths])

@@ -200,8 +200,7 @@ def told_lines(stream, found, identified, has_times, choice=ALL):
         if not choice.has(line):
             continue
         yield time + line
-        remark = remark_on(message, stream, found, identified)
-        if remark:
+        if remark := remark_on(message, stream, found, identified):
             yield f"# also: {remark}"
     for line in found.last:
         yield times.pop() + line if len(times) > len(found.told) else line
@@ -218,8 +217,7 @@ def notes_of(connection, numbers):
     if connection.has_identifiers:
         yield f"{both}: path identifiers pass (RFC 8050), which `decode` does not read"
     for one, other in itertools.permutations(connection.streams.values()):
-        families = path_identifiers(one.octets, other.octets)
-        if families:
+        if families := path_identifiers(one.octets, other.octets):
             yield (f"{numbers[one]}: path identifiers of {', '.join(families)} pass (capability 69, RFC 7911), "
                    "which `decode` does not read")
 

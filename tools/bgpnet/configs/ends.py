@@ -32,8 +32,7 @@ class Judge:
         if asn == self.origin and not isinstance(self.route((asn,)), Denial):
             found.append(Way((asn,), self.route((asn,))))
         for peer in self.set.up[asn]:
-            path = chosen.get(peer)
-            if path:
+            if path := chosen.get(peer):
                 route = self.route((asn,) + path)
                 if route is not None and not isinstance(route, Denial):
                     found.append(Way((asn,) + path, route))

@@ -25,14 +25,13 @@ class Table:
     """What a router has for a prefix: of each peer's address (None is its own) the attributes, and which is best."""
 
     def __init__(self, said):
-        self.routes, self.best, self.ids = {}, None, {}
+        self.routes, self.best, self.has_best = {}, None, False
         for path in said.get("paths", []):
             peer = path.get("peer", {})
             key = None if path.get("sourced") or peer.get("peerId") in (None, "0.0.0.0") else peer["peerId"]
             self.routes[key] = self.attributes(path)
             if path.get("bestpath", {}).get("overall"):
-                self.best = key
-        self.has_best = any(path.get("bestpath", {}).get("overall") for path in said.get("paths", []))
+                self.best, self.has_best = key, True
 
     @staticmethod
     def attributes(path):

@@ -1,6 +1,6 @@
 """Which addresses a router reaches, and by what metric: by edges of a file, or by what the configurations say."""
 from bgpnet.configs.places import Place, Reasons, refusal
-from bgpnet.configs.ribs import Ospf, Ribs, lengths_from, network_of, up_interfaces
+from bgpnet.configs.ribs import Ospf, Ribs, addresses_of, lengths_from, network_of, up_interfaces
 from bgpnet.configs.syntax import number_of
 from bgpnet.network import link_text
 from bgpnet.program import Refusal
@@ -78,8 +78,7 @@ class Reach:
 
 def connected_of(router):
     """The subnets of a router's interfaces that are up."""
-    return [(network_of(*address), address[1]) for interface in router.interfaces.values() if not interface.is_shut
-            for address, _ in interface.addresses if address[0] >> 24 != 127]
+    return [subnet for address, subnet, _, _ in addresses_of(router) if address >> 24 != 127]
 
 
 def is_on(interface, address):

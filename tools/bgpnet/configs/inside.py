@@ -41,8 +41,7 @@ def told(router, neighbor, prefix, held):
 
     LOCAL_PREF goes along. A route of the AS is told by a reflector alone, whose out-map may deny it and changes nothing
     of it, unless a line says so; next-hop-self does not change it, unless it is forced."""
-    denial = kept_from(router, neighbor, held) or filtered(router, neighbor, "out", prefix, held.path)
-    if denial:
+    if denial := kept_from(router, neighbor, held) or filtered(router, neighbor, "out", prefix, held.path):
         return denial
     route, reflects = held.copy(), is_reflected(held)
     if not route.has_preference:
@@ -55,8 +54,7 @@ def told(router, neighbor, prefix, held):
             route.med, route.has_med = 0, True
             route.note("med", f"{neighbor.place} reflected without MED")
     changed = route.copy() if reflects and not router.option(OUT_POLICY) else route
-    denial = mapped(router, neighbor, "out", prefix, changed)
-    if denial:
+    if denial := mapped(router, neighbor, "out", prefix, changed):
         return denial
     if reflects:
         route.clusters = (router.cluster,) + route.clusters
@@ -67,15 +65,13 @@ def told(router, neighbor, prefix, held):
 
 def heard(router, neighbor, far, prefix, route):
     """The route that comes into a router's table of one that a neighbor of its own AS tells; or why none comes."""
-    denial = looped(router, neighbor, route)
-    if denial:
+    if denial := looped(router, neighbor, route):
         return denial
     if route.originator == router.router_id.name:
         return Denial(neighbor.place, f"ORIGINATOR_ID is {dotted(route.originator)}, the router's own")
     if router.cluster in route.clusters:
         return Denial(neighbor.place, f"CLUSTER_LIST has {dotted(router.cluster)}, the router's own cluster")
-    denial = filtered(router, neighbor, "in", prefix, route.path)
-    if denial:
+    if denial := filtered(router, neighbor, "in", prefix, route.path):
         return denial
     weigh(neighbor, route)
     return mapped(router, neighbor, "in", prefix, route) or reached(router, neighbor, far, route)
@@ -97,11 +93,11 @@ def reached(router, neighbor, far, route):
     if metric is None:
         return Denial(neighbor.place, f"the next hop {dotted(route.next_hop)} is not reached")
     kind = EXTERNAL if is_external else CLIENT if neighbor.value("route-reflector-client", False) else INTERNAL
-    route.heard = Heard(kind, far_id(far, router), neighbor.address, far.router.number, metric)
+    route.heard = Heard(kind, far_id(far), neighbor.address, far.router.number, metric)
     return route
 
 
-def far_id(far, router):
+def far_id(far):
     """The router id that the other end of a session says."""
     line = far.neighbor.line("router id") if far.router.language != "FRR" else None
     return (line or far.router.router_id).name
@@ -113,7 +109,7 @@ def is_direct(router, neighbor):
         neighbor.value("disable-connected-check", False) or router.option("bgp disable-ebgp-connected-route-check"))
 
 
-def leaving(router, neighbor, far, route):
+def leaving(router, neighbor, route):
     """The route that a router tells a neighbor of another AS, by its next hop: the router itself, or a third party on a
     subnet that the neighbor is on too (RFC 4271 section 5.1.3)."""
     if neighbor.value("next-hop-self") or neighbor.value("next-hop-self force") or (

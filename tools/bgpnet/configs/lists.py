@@ -32,8 +32,7 @@ class List:
 
     def add(self, number, entry):
         """Adds an entry, in place of another of its number."""
-        former = self.entries.get(number)
-        if former:
+        if former := self.entries.get(number):
             del self.numbers[former.permits, former.text]
         self.entries[number], self.numbers[entry.permits, entry.text] = entry, number
         self.greatest, self.in_order, self.decided = max(self.greatest, number), None, {}

@@ -64,8 +64,7 @@ class PolicyLines(Blocks):
         """What an entry of an access-list looks for, and the text that tells doubles."""
         if rest == ["any"]:
             return Block(0, 0, 0, 32), "any"
-        prefix = prefix_of(rest[0])
-        if prefix:
+        if prefix := prefix_of(rest[0]):
             address, length = prefix
             address &= mask_of(length)
             most = length if rest[1:] else 32

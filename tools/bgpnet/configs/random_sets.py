@@ -55,8 +55,7 @@ class Text:
 
     def make_list(self, kind):
         name = f"{kind[:2].upper()}{len(self.lists[kind]) + 1}"
-        lines = getattr(self, "make_" + kind.replace("-", "_"))(name)
-        if lines:
+        if lines := getattr(self, "make_" + kind.replace("-", "_"))(name):
             self.lists[kind].append(name if isinstance(lines, list) else lines[0])
             self.list_lines += lines if isinstance(lines, list) else lines[1]
 
@@ -277,7 +276,7 @@ class Text:
                     session.append(f"neighbor {key} remote-as {asn}")
                 session.append(f"neighbor {key} peer-group {group}")
                 own += self.policy_lines(key) if draw.chance(0.3) else []
-                own = self.without_conflicts(own, [line for line in family if f" {group} " in line], key)
+                own = self.without_conflicts(own, [line for line in family if f" {group} " in line])
             else:
                 session.append(f"neighbor {key} remote-as {'external' if draw.chance(0.05) else asn}")
                 own += self.policy_lines(key) if not own else []
@@ -292,7 +291,7 @@ class Text:
         return session, family
 
     @staticmethod
-    def without_conflicts(own, group, key):
+    def without_conflicts(own, group):
         """The lines of a member without a list that its group's other list of a direction stands against."""
         taken = {(line.split()[-1]) for line in group if "-list" in line and "filter" not in line}
         return [line for line in own

@@ -157,8 +157,7 @@ class Rules:
 
     def __init__(self, wanted, origins):
         self.origins, self.found = origins, []
-        rest = self.gather(sorted(wanted), wanted, 0)
-        if rest:
+        if rest := self.gather(sorted(wanted), wanted, 0):
             self.put(rest)
 
     def put(self, part):

@@ -71,10 +71,8 @@ class Ribs:
         self.is_known = any(router.igp.is_there for router in own) or self.are_connected()
         self.tables = {router.number: Rib(router.igp.resolves_by_default) for router in own}
         for router in own:
-            for interface in up_interfaces(router):
-                for address, place in interface.addresses:
-                    self.tables[router.number].add((network_of(*address), address[1]),
-                                                   Entry(0, 0, "connected", place))
+            for _, subnet, _, place in addresses_of(router):
+                self.tables[router.number].add(subnet, Entry(0, 0, "connected", place))
         self.edges = {}
         for protocol in (Ospf, Isis):
             running = protocol(own)
@@ -89,8 +87,7 @@ class Ribs:
     def are_connected(self):
         """Whether each neighbor of the AS that a router names is on one of its subnets."""
         for router in self.own:
-            subnets = [(network_of(*address), address[1]) for interface in up_interfaces(router)
-                       for address, _ in interface.addresses]
+            subnets = [subnet for _, subnet, _, _ in addresses_of(router)]
             for neighbor in router.neighbors.values():
                 if neighbor.asn and neighbor.asn.name == router.asn and not any(
                         network_of(neighbor.address, length) == network for network, length in subnets):
@@ -120,6 +117,12 @@ class Ribs:
 
 def up_interfaces(router):
     return [interface for interface in router.interfaces.values() if not interface.is_shut]
+
+
+def addresses_of(router):
+    """Each address of a router's interfaces that are up, with its subnet, the interface, and the line."""
+    return [(address, (network_of(address, length), length), interface, place) for interface in up_interfaces(router)
+            for (address, length), place in interface.addresses]
 
 
 class LinkState:
@@ -168,9 +171,8 @@ class LinkState:
         for said in router.igp.redistributed[self.kind]:
             metric = said.metric + (length if said.adds else 0)
             if said.kind == "connected":
-                for interface in up_interfaces(router):
-                    for address, _ in interface.addresses:
-                        yield (network_of(*address), address[1]), metric
+                for _, subnet, _, _ in addresses_of(router):
+                    yield subnet, metric
             else:
                 for static in router.igp.statics:
                     yield (network_of(*static.prefix), static.prefix[1]), metric
@@ -185,17 +187,15 @@ class Ospf(LinkState):
         if not router.igp.runs_ospf:
             return []
         found = []
-        for interface in up_interfaces(router):
-            for address, _ in interface.addresses:
-                if interface.area is None and not any(network_of(address[0], prefix[1]) == network_of(*prefix)
-                                                      and prefix[1] <= address[1]
-                                                      for prefix, *_ in router.igp.networks):
-                    continue
-                if interface.is_loopback:
-                    found.append(Run(router, interface, (address[0], 32), interface.cost or 0, False))
-                else:
-                    found.append(Run(router, interface, (network_of(*address), address[1]),
-                                     ospf_cost(router, interface), not router.igp.is_passive(interface.name)))
+        for address, subnet, interface, _ in addresses_of(router):
+            if interface.area is None and not any(network_of(address, prefix[1]) == network_of(*prefix)
+                                                  and prefix[1] <= subnet[1] for prefix, *_ in router.igp.networks):
+                continue
+            if interface.is_loopback:
+                found.append(Run(router, interface, (address, 32), interface.cost or 0, False))
+            else:
+                found.append(Run(router, interface, subnet, ospf_cost(router, interface),
+                                 not router.igp.is_passive(interface.name)))
         return found
 
 
@@ -215,10 +215,6 @@ class Isis(LinkState):
     def runs_of(self, router):
         if not router.igp.runs_isis:
             return []
-        found = []
-        for interface in up_interfaces(router):
-            cost = ISIS_METRIC if interface.metric is None else interface.metric
-            for address, _ in interface.addresses if interface.runs_isis else ():
-                found.append(Run(router, interface, (network_of(*address), address[1]), cost,
-                                 not (interface.is_loopback or interface.is_passive_isis)))
-        return found
+        return [Run(router, interface, subnet, ISIS_METRIC if interface.metric is None else interface.metric,
+                    not (interface.is_loopback or interface.is_passive_isis))
+                for _, subnet, interface, _ in addresses_of(router) if interface.runs_isis]

@@ -163,8 +163,7 @@ def apply_map(router, name, prefix, route):
         denial = None
         apply_sets(router, entry, route)
         if entry.call and entry.call[0] in router.maps:
-            denial = apply_map(router, entry.call[0], prefix, route)
-            if denial:
+            if denial := apply_map(router, entry.call[0], prefix, route):
                 return denial
         if entry.next is None:
             return None
@@ -182,8 +181,7 @@ def filtered(router, neighbor, direction, prefix, path):
     for kind, of, value, judge in (("distribute-list", "access-list", prefix, block_fits),
                                    ("prefix-list", "prefix-list", prefix, block_fits),
                                    ("filter-list", "as-path", path_as_text(path), path_fits)):
-        line = neighbor.policy(kind, direction)
-        if line:
+        if line := neighbor.policy(kind, direction):
             found = router.lists[of].get(line.name)
             if found is None:
                 return Denial(line.place, f"{kind} {line.name} {direction} (there is no such list)")
@@ -197,8 +195,7 @@ def filtered(router, neighbor, direction, prefix, path):
 
 def mapped(router, neighbor, direction, prefix, route):
     """Changes a route by the route-map of a neighbor; the denial, where it is denied."""
-    line = neighbor.policy("route-map", direction)
-    if line:
+    if line := neighbor.policy("route-map", direction):
         if line.name not in router.maps:
             return Denial(line.place, f"route-map {line.name} {direction} (there is no such map)")
         return apply_map(router, line.name, prefix, route)
@@ -220,26 +217,22 @@ def own_route(router, network, notes=None):
     if network.map_name:
         if network.map_name not in router.maps:
             return Denial(network.place, f"route-map {network.map_name} (there is no such map)")
-        denial = apply_map(router, network.map_name, network.prefix, route)
-        if denial:
+        if denial := apply_map(router, network.map_name, network.prefix, route):
             return denial
     return route
 
 
 def told(router, neighbor, prefix, route, is_own):
     """The route that a router tells a neighbor of one in its table, or why it tells none."""
-    kept = KEPT_IN.intersection(route.communities)
-    if kept:
+    if kept := KEPT_IN.intersection(route.communities):
         return denied_by(min(kept), route, neighbor.place)
-    denial = filtered(router, neighbor, "out", prefix, route.path)
-    if denial:
+    if denial := filtered(router, neighbor, "out", prefix, route.path):
         return denial
     route = route.copy()
     if not is_own:
         route.has_med = False
         route.note("med")
-    denial = mapped(router, neighbor, "out", prefix, route) or without_policy(router, neighbor, "out")
-    if denial:
+    if denial := mapped(router, neighbor, "out", prefix, route) or without_policy(router, neighbor, "out"):
         return denial
     route.path = (router.asn,) + route.path
     route.has_preference, route.preference = False, 0
@@ -267,8 +260,7 @@ def looped(router, neighbor, route):
 
 def weigh(neighbor, route):
     """Gives a route the weight that a line of its neighbor says."""
-    weight = neighbor.weight_line()
-    if weight:
+    if weight := neighbor.weight_line():
         route.weight = weight.name
         route.note("weight", f"{weight.place} neighbor weight")
 
@@ -281,8 +273,7 @@ def heard(router, neighbor, prefix, route):
     if denial:
         return denial
     weigh(neighbor, route)
-    denial = mapped(router, neighbor, "in", prefix, route)
-    if denial:
+    if denial := mapped(router, neighbor, "in", prefix, route):
         return denial
     if BLACKHOLE in route.communities and NO_EXPORT not in route.communities:
         route.communities = sorted_set(route.communities + (NO_EXPORT,))

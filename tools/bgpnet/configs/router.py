@@ -94,7 +94,7 @@ class Router(Speaker):
         if far.router.asn == self.asn:
             return inside.told(self, neighbor, prefix, way.route)
         told = route.told(self, neighbor, prefix, way.route, self.is_own(way))
-        return told if isinstance(told, Denial) or self.reach is None else inside.leaving(self, neighbor, far, told)
+        return told if isinstance(told, Denial) or self.reach is None else inside.leaving(self, neighbor, told)
 
     def is_own(self, way):
         """Whether the route of a way is the router's own."""

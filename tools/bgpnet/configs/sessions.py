@@ -215,8 +215,7 @@ class Set(Named):
         if not (one.router.is_whole and other.router.is_whole):
             raise Passed
         for end, far in ((one, other), (other, one)):
-            found = end.router.no_session(end.neighbor, far)
-            if found:
+            if found := end.router.no_session(end.neighbor, far):
                 end.router.warn(*found)
                 return
         if not (one.neighbor.is_active or other.neighbor.is_active):

@@ -50,12 +50,10 @@ def prefix_of(word):
 
 def variants(syntax):
     """The syntaxes without choices and options that a syntax stands for."""
-    option = OPTION.search(syntax)
-    if option:
+    if option := OPTION.search(syntax):
         before, after = syntax[:option.start()], syntax[option.end():]
         return variants(before + after) + variants(before + option.group(1) + after)
-    choice = CHOICE.search(syntax)
-    if choice:
+    if choice := CHOICE.search(syntax):
         return [found for part in choice.group(1).split("|")
                 for found in variants(syntax[:choice.start()] + part + syntax[choice.end():])]
     return [tuple(syntax.split())]
@@ -66,8 +64,7 @@ def token_of(text):
     """What a token takes: its kind, and the bounds of a number."""
     if text.endswith("..."):
         return "rest", None
-    bounds = re.fullmatch(r"\((\d+)-(\d+)\)", text)
-    if bounds:
+    if bounds := re.fullmatch(r"\((\d+)-(\d+)\)", text):
         return "number", (int(bounds.group(1)), int(bounds.group(2)))
     if text in ("A.B.C.D", "A.B.C.D/M", "X:X::X:X"):
         return text, None

@@ -31,8 +31,7 @@ class Literals(Stream):
 
     def operation(self, op, args, place):
         """A node of an operation, its types checked as far as the file says them."""
-        why = wrong_types(op, args)
-        if why:
+        if why := wrong_types(op, args):
             self.refuse(why, place)
         node = Node(op, args, result_of(op, args), place)
         return self.worked_out(node) if all(arg.is_constant for arg in args) else node

@@ -148,8 +148,7 @@ class Protocols(Statements):
         """A switch: silence means agreement."""
         if self.is_next(";", "}"):
             return True
-        word = self.take(*options.ON, *options.OFF)
-        if word:
+        if word := self.take(*options.ON, *options.OFF):
             return word in options.ON
         return bool(self.number())
 

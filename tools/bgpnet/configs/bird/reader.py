@@ -81,8 +81,7 @@ class Reader(Protocols):
 
     def new_name_of(self, what):
         token = self.new_name(what)
-        other = self.scopes.find(token.value)
-        if other:
+        if other := self.scopes.find(token.value):
             self.refuse(f"'{token.value}' is defined already, at {other.place}", token.place)
         return token
 

@@ -180,8 +180,7 @@ class Router(Speaker):
         if channel is None or self.is_off(protocol) or channel.said.get("table"):
             return
         for prefix, kind, body, place in protocol.routes:
-            other = self.networks.get(prefix)
-            if other:
+            if other := self.networks.get(prefix):
                 self.reasons.add(refusal(place, f"a second route for {prefix}: the first is at {other.place}"))
             elif is_bogus(prefix):
                 self.reasons.add(refusal(place, f"{prefix}: no network of hosts, and peers pass it over"))
@@ -260,8 +259,7 @@ class Router(Speaker):
         stopped = STOPPED.intersection(held.communities)
         if stopped and held.near and neighbor.option("interpret communities", True):
             return denied_by(min(stopped), held, neighbor.place)
-        denial = denied_out(neighbor, held)
-        if denial:
+        if denial := denied_out(neighbor, held):
             return denial
         route = held.copy()
         denial = self.filtered(neighbor.policy("export"), route, prefix, neighbor.channel.policies["export"].place,
@@ -316,8 +314,7 @@ class Router(Speaker):
         elif "default bgp_local_pref" in neighbor.protocol.said:
             held.note("local-pref", f"{neighbor.protocol.said['default bgp_local_pref'].place} default bgp_local_pref")
         held.standing, held.near, held.proto = neighbor.of_channel("preference", STANDING), neighbor, neighbor.name
-        denial = denied_in(neighbor, held)
-        if denial:
+        if denial := denied_in(neighbor, held):
             return denial
         marked_in(neighbor, held)
         denial = self.filtered(neighbor.policy("import"), held, prefix, neighbor.channel.policies["import"].place,

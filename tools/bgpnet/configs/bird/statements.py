@@ -150,8 +150,7 @@ class Statements(Terms):
 
     def condition(self):
         term = self.term()
-        why = wrong_types("CONDITION", [term])
-        if why:
+        if why := wrong_types("CONDITION", [term]):
             self.refuse(why, term.place)
         return term
 
