@@ -11,8 +11,11 @@
 //! parts anew: a router that has the same path in all choices of its part is a part by itself. Where a part has more
 //! choices than the limit, each value is tried until a choice has it, and what is left is parted before it is counted.
 //!
-//! A router follows if no router that doesn't follow cares which of its values it has, and if exactly one of them fits
-//! whatever values these have. It is a part by itself, and is left out where the others are searched and counted.
+//! Routers follow together if no other one cares which of their values they have, and if, whatever values the others
+//! have, there is exactly one way to give them values that fit. It is seen value by value: each of them has exactly one
+//! value that fits, whatever its peers have; and where it has which one, its peers outside tell, with those values of its
+//! peers inside that are told already. So a mesh of routers without a rule follows what is decided before it. Each of
+//! them is a part by itself, and is left out where the others are searched and counted.
 //!
 //! A router without a rule may permit more paths than can be listed. Before the search, routers are fixed outwards from
 //! the origin: a router whose best path over a fixed peer is better than any that another peer could bring has that
