@@ -10,6 +10,7 @@ from typing import Collection, Dict, Iterable, Iterator, Mapping, Optional, Sequ
 
 from bgpnet.network import Ends, Link, Network, Path, Prefix
 from bgpnet.playing import Move
+from bgpnet.program import grouped
 
 Point = Tuple[float, float]
 # The ends of a link's way and, between them, the point that it bends to.
@@ -78,9 +79,7 @@ def places(network: Network, origin: int) -> Spots:
         return {origin: (0.0, 0.0)}
     apart = {router: network.distances(router) for router in routers}
     spots: Spots = {origin: (0.01, 0.02)}
-    levels: dict[int, list[int]] = {}
-    for router in routers:
-        levels.setdefault(apart[origin][router], []).append(router)
+    levels = grouped((apart[origin][router], router) for router in routers)
     for level, own in levels.items():
         for at, router in enumerate(own) if level else ():
             x, y = around(at * 100 + 37 * level, len(own) * 100 + 37 * level)
@@ -100,10 +99,7 @@ def places(network: Network, origin: int) -> Spots:
 
 def rowed(spots: Spots) -> Spots:
     """The places of routers in rows, those of one row at least a step apart, around the middle that they had."""
-    rows: dict[float, list[tuple[float, int]]] = {}
-    for router, (x, y) in spots.items():
-        rows.setdefault(y, []).append((x, router))
-    for y, row in rows.items():
+    for y, row in grouped((y, (x, router)) for router, (x, y) in spots.items()).items():
         row.sort()
         xs: list[float] = []
         middle = sum(x for x, _ in row) / len(row)

@@ -12,8 +12,10 @@ import shutil
 import subprocess
 import sys
 import zlib
-from typing import Callable, Iterable, NoReturn, Sequence
+from typing import Callable, Dict, Iterable, List, NoReturn, Sequence, Tuple, TypeVar
 
+Key = TypeVar("Key")
+Value = TypeVar("Value")
 # The top of the repository, where the package stands in one.
 TOP = pathlib.Path(__file__).resolve().parents[2]
 BUILT = TOP / "crates/bgpnet/out/bgpnet"
@@ -60,6 +62,14 @@ class Refused(Refusal):
         found = CODED.fullmatch(sentence)
         self.line, self.hints = line, tuple(hints)
         self.code, self.sentence = (found[1], found[2]) if found else ("", sentence)
+
+
+def grouped(pairs: Iterable[Tuple[Key, Value]]) -> Dict[Key, List[Value]]:
+    """The values of each key, both in the order in which they come."""
+    found: Dict[Key, List[Value]] = {}
+    for key, value in pairs:
+        found.setdefault(key, []).append(value)
+    return found
 
 
 def refuse_all(reasons: Sequence[Refusal]) -> None:

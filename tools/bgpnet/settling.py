@@ -11,7 +11,7 @@ from bgpnet.live import GaveUp, live_paths, shortest_paths
 from bgpnet.network import Link, Network, Path, Prefix, lines_text, originations, path_text, starts
 from bgpnet.orders import MOST_LINES, at_random, lock_step, race_of
 from bgpnet.playing import Said, judgements
-from bgpnet.program import Program, Refusal
+from bgpnet.program import Program, Refusal, grouped
 from bgpnet.stable import is_safe, stable_assignments
 from bgpnet.timing import End, HearingOrder, parting, schedule_of, sentence, shortest_orders
 from bgpnet.tracing import Again, Kind, Rest, counts_of, outcome_of, rest_bound, rows_of, stages_of
@@ -205,10 +205,7 @@ def play_orders(program: Program, network: Network, words: Sequence[Word], is_wh
         said, routes, again = end_of(program, order, is_whole)
         return said, routes, Ended(word, again, order.counts)
 
-    ends: OrderEnds = {}
-    for said, routes, ended in jobs.in_order(play, words, number, "orders"):
-        ends.setdefault((said, routes), []).append(ended)
-    return ends
+    return grouped(((said, routes), ended) for said, routes, ended in jobs.in_order(play, words, number, "orders"))
 
 
 def are_found(routes: Routes, found: Mapping[Prefix, Sequence[dict[int, Path]]]) -> bool:

@@ -30,7 +30,7 @@ from bgpnet import jobs
 from bgpnet.answers import routes_json
 from bgpnet.live import warnings
 from bgpnet.network import network_asked, path_text, read_link
-from bgpnet.program import Refusal, Words, count, tool
+from bgpnet.program import Refusal, Words, count, grouped, tool
 from bgpnet.settling import Order, Timing, found_of, is_confirmed, judged_assignments, play_orders, row_text
 
 
@@ -58,9 +58,7 @@ def print_found(network, found, judged):
 
 def routes_text(network, routes):
     """Routes in which an order settled, by prefix."""
-    rows = {}
-    for (router, prefix), path in routes:
-        rows.setdefault(prefix, []).append((router, path))
+    rows = grouped((prefix, (router, path)) for (router, prefix), path in routes)
     return "; ".join(f"{prefix}: {row_text(network, paths)}" for prefix, paths in rows.items())
 
 

@@ -35,7 +35,7 @@ from bgpnet.failures import Failure, Player, alike_key, seen_in
 from bgpnet.leftover import ends_left, is_safe, start_in
 from bgpnet.network import network_asked, path_text, read_link, read_network, read_router
 from bgpnet.playing import state_behind
-from bgpnet.program import Refusal, Words, count, read_text, tool
+from bgpnet.program import Refusal, Words, count, grouped, read_text, tool
 from bgpnet.reports import read_report
 from bgpnet.tracing import rest_bound
 
@@ -91,10 +91,7 @@ def print_state(network, title, state, seen, bound, place):
     same = [prefix for prefix, one in seen.items() if not (one.changed or one.without or place == BACK and one.other)]
     if len(same) < 2 or len({seen[prefix].said[0] for prefix in same}) > 1:
         same = []
-    alike = {}
-    for prefix, one in seen.items():
-        if prefix not in same:
-            alike.setdefault(alike_key(one), []).append(prefix)
+    alike = grouped((alike_key(one), prefix) for prefix, one in seen.items() if prefix not in same)
     for prefixes in alike.values():
         for line in seen_lines(network, prefixes, seen[prefixes[0]], place):
             print(line)
@@ -180,10 +177,8 @@ def cell_text(state, one):
 
 def print_table(outcome):
     """A row for each failure, a column for each prefix; of prefixes that all failures do the same to, one column."""
-    columns = {}
-    for prefix in outcome.player.network.origins:
-        cells = tuple(cell_text(state, seen[prefix]) for state, seen in outcome.rows.values())
-        columns.setdefault(cells, []).append(prefix)
+    columns = grouped((tuple(cell_text(state, seen[prefix]) for state, seen in outcome.rows.values()), prefix)
+                      for prefix in outcome.player.network.origins)
     width = max(map(len, outcome.rows), default=0)
     for at, prefixes in enumerate(columns.values(), 1):
         print(f"{at}: {', '.join(map(str, prefixes))}")

@@ -3,16 +3,13 @@ from bgpnet.configs.comparison import Comparison, names_of
 from bgpnet.configs.files import read_set
 from bgpnet.configs.ranks import Ranks
 from bgpnet.network import link_text
-from bgpnet.program import Refusal
+from bgpnet.program import Refusal, grouped
 
 
 def links_of(routers):
     """The links of the IGPs: each two routers of an AS that are alone on a subnet."""
-    on = {}
-    for number, router in routers.routers.items():
-        for network in router.reach.connected:
-            on.setdefault(network, set()).add(number)
-    pairs = {tuple(sorted(ends)) for ends in on.values() if len(ends) == 2}
+    on = grouped((network, number) for number, router in routers.routers.items() for network in router.reach.connected)
+    pairs = {tuple(sorted(ends)) for ends in map(set, on.values()) if len(ends) == 2}
     return sorted(pair for pair in pairs if routers.routers[pair[0]].asn == routers.routers[pair[1]].asn)
 
 

@@ -8,7 +8,7 @@ from bgpnet.configs.origins import origins_of
 from bgpnet.configs.places import OF_ITS_OWN, Passed, Reasons, refusal
 from bgpnet.configs.sessions import End, Set
 from bgpnet.network import path_text
-from bgpnet.program import Refusal
+from bgpnet.program import Refusal, grouped
 
 
 # How the name of an AS outside ends, and how many digits of a number in a name count.
@@ -121,9 +121,7 @@ class AsSet(Set):
         """The routers of neighbors whose address no line says, where two name each other by the addresses of one subnet
         of two (/30 or /31), and no third one does."""
         unknown = [(router, neighbor) for router, neighbor in self.named() if neighbor.address not in self.owners]
-        on = {}
-        for router, neighbor in unknown:
-            on.setdefault(neighbor.address >> 2, []).append((router, neighbor))
+        on = grouped((neighbor.address >> 2, (router, neighbor)) for router, neighbor in unknown)
         for ends in on.values():
             if len(ends) == 2 and ends[0][0] is not ends[1][0] and ends[0][1].address != ends[1][1].address:
                 for (router, neighbor), (other, back) in (ends, ends[::-1]):

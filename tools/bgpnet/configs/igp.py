@@ -3,7 +3,7 @@ from bgpnet.configs.places import Place, Reasons, refusal
 from bgpnet.configs.ribs import Ospf, Ribs, addresses_of, lengths_from, network_of, up_interfaces
 from bgpnet.configs.syntax import number_of
 from bgpnet.network import link_text
-from bgpnet.program import Refusal
+from bgpnet.program import Refusal, grouped
 
 MOST_COST = 2**24 - 1
 
@@ -100,9 +100,7 @@ class Igp:
             cut |= self.read_edges(edges, down)
         if down - cut:
             raise Refusal(f"there is no link {link_text(map(routers.label, sorted(min(down - cut))))} of the IGP")
-        by_asn = {}
-        for router in routers.routers.values():
-            by_asn.setdefault(router.asn, []).append(router)
+        by_asn = grouped((router.asn, router) for router in routers.routers.values())
         self.shut_addresses = {address for router in routers.routers.values()
                                for interface in router.interfaces.values() if interface.is_shut
                                for (address, _), _ in interface.addresses}
@@ -113,11 +111,9 @@ class Igp:
 
     def shut(self, link):
         """Shuts the interfaces of two routers that are alone on a subnet, and says whether there are some."""
-        on = {}
-        for number, router in self.set.routers.items():
-            for interface in router.interfaces.values():
-                for (address, length), _ in interface.addresses if not interface.is_loopback else ():
-                    on.setdefault((network_of(address, length), length), []).append((number, interface))
+        on = grouped(((network_of(address, length), length), (number, interface))
+                     for number, router in self.set.routers.items() for interface in router.interfaces.values()
+                     if not interface.is_loopback for (address, length), _ in interface.addresses)
         found = [ends for ends in on.values() if {number for number, _ in ends} == link]
         for ends in found:
             for _, interface in ends:

@@ -5,6 +5,7 @@ from itertools import permutations
 from bgpnet.configs.pairs import all_in_order, groups_of
 from bgpnet.configs.routes import MOST
 from bgpnet.network import MOST_PATHS
+from bgpnet.program import grouped
 
 
 def coarse_key(router, way):
@@ -139,9 +140,8 @@ class Order:
 
     def by_id(self, group):
         """Ways that are alike up to the router id."""
-        group, peers = sorted(group, key=self.last_key), {}
-        for way in group:
-            peers.setdefault(way.path[1:2], []).append(way)
+        group = sorted(group, key=self.last_key)
+        peers = grouped((way.path[1:2], way) for way in group)
         if len(peers) > 1:
             self.note_tie(Tie(peers, {}))
         return group
@@ -153,9 +153,8 @@ class Order:
     def by_pairs(self, group):
         """Ways of which only some are compared by their metric. Two of one peer never stand in a table together: where
         no metric says which is better, nothing does."""
-        kinds = {}
-        for way in sorted(group, key=self.last_key):
-            kinds.setdefault((way.path[1], way.route.path[:1], metric(self.router, way.route)), []).append(way)
+        kinds = grouped(((way.path[1], way.route.path[:1], metric(self.router, way.route)), way)
+                        for way in sorted(group, key=self.last_key))
         above, by_metric = {kind: set() for kind in kinds}, {kind: set() for kind in kinds}
         for one, other in permutations(kinds, 2):
             judged, is_other = self.beats(kinds[one][0], kinds[other][0]), one[0] != other[0]

@@ -4,6 +4,7 @@ from collections import namedtuple
 from bgpnet.configs.router import Line, Neighbor, Network
 from bgpnet.configs.routes import Denial, Route
 from bgpnet.configs.speaker import Speaker
+from bgpnet.program import grouped
 
 # The AS number of such a router, which no AS has, and the first of the router ids that they get (RFC 5737).
 NOBODY, FIRST_ID = 0, 192 << 24 | 2 << 8
@@ -60,11 +61,8 @@ class Origins(Speaker):
 
 def origins_of(routers, number):
     """A router for each group of routers of FRR that announce the same prefixes, numbered from a number on."""
-    announced, groups = {}, {}
-    for router in routers:
-        for prefix in router.networks:
-            announced.setdefault(prefix, []).append(router)
-    for prefix, own in announced.items():
+    groups = {}
+    for prefix, own in grouped((prefix, router) for router in routers for prefix in router.networks).items():
         if len(own) > 1 and all(router.language == "FRR" for router in own):
             groups.setdefault(tuple(router.number for router in own), (own, []))[1].append(prefix)
     return [Origins(own, sorted(prefixes), number + at, at + 1) for at, (own, prefixes) in enumerate(groups.values())]

@@ -1,13 +1,12 @@
 """An order of which only pairs are known: which of two is better."""
 from bgpnet.configs.places import refusal
 from bgpnet.network import path_text
+from bgpnet.program import grouped
 
 
 def groups_of(ways, key):
     """The ways in groups that a key does not tell apart, the least first."""
-    groups = {}
-    for way in ways:
-        groups.setdefault(key(way), []).append(way)
+    groups = grouped((key(way), way) for way in ways)
     return [groups[own] for own in sorted(groups)]
 
 

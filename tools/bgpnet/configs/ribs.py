@@ -4,6 +4,7 @@ import heapq
 from collections import namedtuple
 
 from bgpnet.configs.lists import mask_of
+from bgpnet.program import grouped
 
 # A route: its administrative distance, its metric, and how it came. To FRR a next hop is reached that leads nowhere.
 Entry = namedtuple("Entry", "distance metric kind place")
@@ -133,11 +134,7 @@ class LinkState:
     def __init__(self, own):
         self.own = own
         self.runs = {router.number: self.runs_of(router) for router in own}
-        on = {}
-        for number, runs in self.runs.items():
-            for run in runs:
-                if run.is_active:
-                    on.setdefault(run.subnet, []).append((number, run))
+        on = grouped((run.subnet, (number, run)) for number, runs in self.runs.items() for run in runs if run.is_active)
         self.edges = {router.number: {} for router in own}
         for ends in on.values():
             for one, run in ends:

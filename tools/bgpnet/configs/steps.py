@@ -7,6 +7,7 @@ from bgpnet.configs.order import Tie, coarse_key, compares_all, compares_metric,
 from bgpnet.configs.pairs import groups_of, in_order, refuse_circle, shortest_circle
 from bgpnet.configs.routes import ORIGINS
 from bgpnet.configs.sessions import dotted
+from bgpnet.program import grouped
 
 COMPARE_ID, DETERMINISTIC = "bgp bestpath compare-routerid", "bgp deterministic-med"
 TYPE_LAST, BY_CLUSTERS = "bgp bestpath peer-type multipath-relax", "equal-cluster-length"
@@ -134,9 +135,7 @@ class Order:
     def by_pairs(self, group):
         """Ways of which only some are compared by their MED. Two of one neighbor never stand in a table together. Where
         no pairs go in a circle that can stand in a table together, that is an order."""
-        kinds, by_metric = {}, {}
-        for way in group:
-            kinds.setdefault(self.kind(way), []).append(way)
+        kinds, by_metric = grouped((self.kind(way), way) for way in group), {}
         above = {kind: set() for kind in kinds}
         for one, other in permutations(kinds, 2):
             pair = kinds[one][0], kinds[other][0]
@@ -213,8 +212,6 @@ def may_keep(routers, prefix, number, ways, kept):
         return found
 
     if router.option(DETERMINISTIC):
-        groups = {}
-        for way in ways:
-            groups.setdefault(way.route.path[:1] or way.path, []).append(way)
+        groups = grouped((way.route.path[:1] or way.path, way) for way in ways)
         ways = [way for group in groups.values() for way in lasting(group)]
     return any(way is kept for way in lasting(ways))

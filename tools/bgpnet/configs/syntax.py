@@ -7,6 +7,8 @@ import re
 from collections import namedtuple
 from functools import lru_cache
 
+from bgpnet.program import grouped
+
 # How well a word fits a token: the least is the best, and of two commands the one that fits better further in front.
 EXACT, TYPED, SHORTENED, ANY, REST = range(5)
 
@@ -92,10 +94,7 @@ class Commands:
     """The commands of a block of a configuration."""
 
     def __init__(self, table):
-        self.first = {}
-        for command in table:
-            for tokens in variants(command.syntax):
-                self.first.setdefault(tokens[0], []).append((tokens, command))
+        self.first = grouped((tokens[0], (tokens, command)) for command in table for tokens in variants(command.syntax))
 
     @lru_cache(maxsize=MOST_KNOWN)
     def find(self, words):

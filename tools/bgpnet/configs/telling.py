@@ -15,7 +15,7 @@ from bgpnet.configs.sessions import dotted
 from bgpnet.configs.showing import ending, inside_attributes, path_words, reported, with_steps
 from bgpnet.configs.syntax import number_of, prefix_of
 from bgpnet.network import MOST_PATHS, Named, Prefix, lines_text, path_text, routes_of, telling, words_of
-from bgpnet.program import Refusal
+from bgpnet.program import Refusal, grouped
 from bgpnet.reports import is_json, read_report
 
 # Orders of ties that are played for a prefix, at most.
@@ -348,10 +348,8 @@ class Change:
         found = []
         if was_settled != is_settled:
             found.append("the network settles no more" if was_settled else "the network settles now")
-        alike = {}
-        for key in sorted(set(before) | set(after), key=lambda key: (key[1], key[0])):
-            if before.get(key) != after.get(key):
-                asn, prefix = key
-                alike.setdefault((asn, after.get(key, ()), before.get(key, ())), []).append(prefix)
+        keys = sorted(set(before) | set(after), key=lambda key: (key[1], key[0]))
+        alike = grouped(((asn, after.get((asn, prefix), ()), before.get((asn, prefix), ())), prefix)
+                        for asn, prefix in keys if before.get((asn, prefix)) != after.get((asn, prefix)))
         return found + [f"end {self.both.router_text(asn)} {', '.join(map(str, prefixes))} {self.both.path_text(new)}, "
                         f"was {self.both.path_text(old)}" for (asn, new, old), prefixes in alike.items()]

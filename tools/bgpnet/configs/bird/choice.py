@@ -8,6 +8,7 @@ from bgpnet.configs.bird.evaluate import UNREACHABLE
 from bgpnet.configs.communities import STALE
 from bgpnet.configs.lists import mask_of
 from bgpnet.configs.pairs import all_in_order, groups_of
+from bgpnet.program import grouped
 
 MISSING_ORIGIN = 2
 # The distance to a next hop that an own route covers, which says none; to one that is not reached it is 0.
@@ -102,11 +103,9 @@ class Order:
 
     def by_pairs(self, group):
         """Ways of which pairs are compared by other things. Two of one peer never stand in a table together."""
-        kinds = {}
-        for way in sorted(group, key=lambda way: (self.id_of(way), way.path)):
-            route = way.route
-            kinds.setdefault((way.path[1], len(route.path), route.origin, self.first(route), self.metric(route)),
-                             []).append(way)
+        kinds = grouped(((way.path[1], len(way.route.path), way.route.origin, self.first(way.route),
+                          self.metric(way.route)), way)
+                        for way in sorted(group, key=lambda way: (self.id_of(way), way.path)))
         above = {kind: set() for kind in kinds}
         for one, other in combinations(kinds, 2):
             if one[0] != other[0]:
