@@ -1,10 +1,10 @@
 -- Places that follow others: what a search for them finds, and that there is one way to give them values.
-use Rattle.std.proofs.Common.{◌≡◌, ◌≢◌, ℕ, zero, suc, ◌<◌, ◌≤◌, ◌+◌, List, [], ◌∷◌, ◌++◌, length, take, get_or, set, refl, sym, ap, subst, ◌∙◌, arith, inl, inr, ◌⊎◌}
+use Rattle.std.proofs.Common.{◌≡◌, ◌≢◌, ℕ, zero, suc, ◌<◌, ◌≤◌, ◌+◌, List, [], ◌∷◌, ◌++◌, length, take, get_or, refl, sym, ap, subst, ◌∙◌, arith, inl, inr, ◌⊎◌}
 use Rattle.std.specs.Prelude.{◌↔◌}
 use Rattle.std.specs.List.{All, Contains}
 use lib.Bits.{bit_and}
 use Rattle.std.proofs.lemmas.Bool.{cases_order, cases_lt, cases_eq}
-use Rattle.std.proofs.lemmas.List.{take_more, take_all, length-set, length-append, get_or-set_same, get_or-set_other, get_or_append_left, get_or_at, get_or_past}
+use Rattle.std.proofs.lemmas.List.{take_more, take_all, length-append, get_or_append_left, get_or_at, get_or_past}
 use Rattle.std.proofs.lemmas.List.Elements.{All-push}
 use Rattle.std.proofs.lemmas.Nat.Bits.{bit_at_and, bit_at-lt}
 use Rattle.stable_search.specs.declared.way.Way.{Way}
@@ -308,28 +308,3 @@ module _ (ends : List Way) (sets levels : List ℕ) (are : AreLevels ends sets l
 
     pub same_everywhere : (i : ℕ) → i < length levels → get_or one i 0 ≡ get_or other i 0
     same_everywhere i lt = same_below (suc (get_or levels i 0)) i lt (omega arith)
-
--- ---- raised levels
-
-pub raised_start : (levels raised : List ℕ) (level : ℕ) → raised ≡ levels → IsRaised levels level raised
-raised_start levels raised level e = record { size = ap length e; each = λ i. inl (ap (λ (xs : List ℕ). get_or xs i 0) e) }
-
-pub raised_on : (levels raised : List ℕ) (level place : ℕ) → place < length raised → get_or raised place 0 ≡ 0 → IsRaised levels level raised → IsRaised levels level (set raised place level)
-raised_on levels raised level place lt flat is = record {
-  size = length-set raised place level ∙ is.size;
-  each = λ i. elim (cases_eq i place) [
-    | inl same ↦
-        let here : get_or (set raised place level) i 0 ≡ level = ap (λ (n : ℕ). get_or (set raised place level) n 0) same ∙ get_or-set_same raised place level 0 lt in
-        let was : get_or raised i 0 ≡ 0 = ap (λ (n : ℕ). get_or raised n 0) same ∙ flat in
-        elim (is.each i) [
-          | inl kept ↦ inr (sym kept ∙ was, here)
-          | inr new ↦ inr (new.0, here)
-        ]
-    | inr differ ↦
-        let other : get_or (set raised place level) i 0 ≡ get_or raised i 0 = get_or-set_other raised place i level 0 differ in
-        elim (is.each i) [
-          | inl kept ↦ inl (other ∙ kept)
-          | inr new ↦ inr (new.0, other ∙ new.1)
-        ]
-  ];
-}

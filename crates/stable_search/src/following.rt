@@ -386,56 +386,92 @@ fn all_moved(alloc: Global, ends: &[Way], sets: &[u64]) -> Result<Vec<bool>, All
     Ok(moved)
 }
 
-// Gives the level to each place that follows none and to which a place of the level matters, and answers whether there
-// was one.
-fn raise_each(ends: &[Way], moved: &[bool], level: usize, levels: &mut Vec<usize>) -> bool
-    requires within { AreWithin (length levels.old.items) ends.now }
+// Marks each place to which a marked one matters, and answers whether there was another one.
+fn mark_each(ends: &[Way], moved: &[bool], marks: &mut Vec<bool>) -> bool
+    requires within { AreWithin (length marks.old.items) ends.now }
     requires moved { length moved.now ≡ length ends.now }
-    ensures { IsRaised levels.old.items level levels.new.items }
+    ensures { length marks.new.items ≡ length marks.old.items }
 {
     let mut some = false;
     for (k, end) in ends.iter().enumerate() {
-        if moved[k] && levels[end.from] == level && levels[end.to] == 0 {
-            levels[end.to] = level;
+        if moved[k] && marks[end.from] && !marks[end.to] {
+            marks[end.to] = true;
             some = true;
         }
     }
     some
 }
 
-// The levels with this one for a place, and for each to which such a one matters.
-fn raised_behind(
+// So many places, none of them marked.
+fn none_marked(alloc: Global, count: usize) -> Result<Vec<bool>, AllocError>
+    ensures { IfOk result (λ marks. length marks.items ≡ count) }
+{
+    let mut marks = Vec::with_capacity(alloc, count)?;
+    for _place in 0..count {
+        marks.push(false)?;
+    }
+    Ok(marks)
+}
+
+// The marks of a place, and of each to which a marked one matters.
+fn marks_behind(
     alloc: Global,
     ends: &[Way],
     moved: &[bool],
-    levels: &[usize],
-    level: usize,
+    count: usize,
     place: usize,
-) -> Result<Vec<usize>, AllocError>
-    requires within { AreWithin (length levels.now) ends.now }
+) -> Result<Vec<bool>, AllocError>
+    requires within { AreWithin count ends.now }
     requires moved { length moved.now ≡ length ends.now }
-    requires place { place < length levels.now }
-    requires none { slice_index levels.now place ≡ 0 }
-    ensures { IfOk result (λ raised. IsRaised levels.now level raised.items) }
+    requires place { place < count }
 {
-    let mut raised = Vec::from_slice(alloc, levels)?;
-    raised[place] = level;
-    for _round in 0..levels.len() {
-        if !raise_each(ends, moved, level, &mut raised) {
+    let mut marks = none_marked(alloc, count)?;
+    marks[place] = true;
+    for _round in 0..count {
+        if !mark_each(ends, moved, &mut marks) {
             break;
         }
     }
-    Ok(raised)
+    Ok(marks)
 }
 
-// How many places have the level; `None` if one of them is stuck.
-fn count_at(levels: &[usize], level: usize, stuck: &[bool]) -> Option<usize>
+// For each place the marks of those behind it: to which it matters, or one of them does.
+fn all_behind(alloc: Global, ends: &[Way], sets: &[u64]) -> Result<Vec<Vec<bool>>, AllocError>
+    requires { AreWithin (length sets.now) ends.now }
+{
+    let moved = all_moved(alloc, ends, sets)?;
+    let count = sets.len();
+    let mut behind = Vec::with_capacity(alloc, count)?;
+    for place in 0..count {
+        behind.push(marks_behind(alloc, ends, moved.as_slice(), count, place)?)?;
+    }
+    Ok(behind)
+}
+
+// Whether a place is behind another one.
+fn is_behind(behind: &[Vec<bool>], place: usize, other: usize) -> bool {
+    match behind.get(place) {
+        Some(marks) => match marks.as_slice().get(other) {
+            Some(mark) => *mark,
+            None => false,
+        },
+        None => false,
+    }
+}
+
+// How many places of level 0 are behind a place; `None` if one of them is stuck.
+fn count_behind(
+    behind: &[Vec<bool>],
+    levels: &[usize],
+    stuck: &[bool],
+    place: usize,
+) -> Option<usize>
     requires { length stuck.now ≡ length levels.now }
 {
     let mut count = 0;
-    for (place, has) in levels.iter().enumerate() {
-        if *has == level {
-            if stuck[place] {
+    for (other, level) in levels.iter().enumerate() {
+        if *level == 0 && is_behind(behind, place, other) {
+            if stuck[other] {
                 return None;
             }
             count += 1;
@@ -444,39 +480,49 @@ fn count_at(levels: &[usize], level: usize, stuck: &[bool]) -> Option<usize>
     Some(count)
 }
 
-// The levels with this one for the fewest places: one with two values or more that follows none, and each to which such a
-// one matters; none of them is stuck.
-fn least_raised(
-    alloc: Global,
-    ends: &[Way],
-    moved: &[bool],
+// The place of level 0 with two values or more that has the fewest such places behind it, none of them stuck.
+fn least_place(
+    behind: &[Vec<bool>],
     sets: &[u64],
     levels: &[usize],
-    level: usize,
     stuck: &[bool],
-) -> Result<Option<Vec<usize>>, AllocError>
-    requires within { AreWithin (length sets.now) ends.now }
-    requires moved { length moved.now ≡ length ends.now }
+) -> Option<usize>
     requires size { length levels.now ≡ length sets.now }
     requires stuck { length stuck.now ≡ length sets.now }
-    ensures { IfOk result (λ found. IfSome found (λ raised. IsRaised levels.now level raised.items)) }
 {
     let mut least = None;
     let mut fewest = usize::MAX;
     for (place, set) in sets.iter().enumerate() {
         if levels[place] == 0 && set.count_ones() > 1 && !stuck[place] {
-            let raised = raised_behind(alloc, ends, moved, levels, level, place)?;
-            match count_at(raised.as_slice(), level, stuck) {
-                Some(1) => return Ok(Some(raised)),
+            match count_behind(behind, levels, stuck, place) {
                 Some(count) if count < fewest => {
                     fewest = count;
-                    least = Some(raised);
+                    least = Some(place);
                 }
                 _ => {}
             }
         }
     }
-    Ok(least)
+    least
+}
+
+// The levels with this one for each place of level 0 behind a place.
+fn raised(
+    alloc: Global,
+    behind: &[Vec<bool>],
+    levels: &[usize],
+    level: usize,
+    place: usize,
+) -> Result<Vec<usize>, AllocError>
+    ensures { IfOk result (λ raised. IsRaised levels.now level raised.items) }
+{
+    let mut raised = Vec::from_slice(alloc, levels)?;
+    for other in 0..levels.len() {
+        if raised[other] == 0 && is_behind(behind, place, other) {
+            raised[other] = level;
+        }
+    }
+    Ok(raised)
 }
 
 // Marks the places of the level as stuck.
@@ -491,18 +537,17 @@ fn mark_stuck(levels: &[usize], level: usize, stuck: &mut Vec<bool>)
     }
 }
 
-// The levels with this one for places that follow together places of lower levels. Places that don't are stuck.
+// The levels with this one for the fewest places that follow together places of lower levels. Those that don't are stuck.
 fn next_levels(
     alloc: Global,
     ends: &[Way],
-    moved: &[bool],
+    behind: &[Vec<bool>],
     sets: &[u64],
     levels: &[usize],
     level: usize,
     stuck: &mut Vec<bool>,
 ) -> Result<Option<Vec<usize>>, AllocError>
     requires within { AreWithin (length sets.now) ends.now }
-    requires moved { length moved.now ≡ length ends.now }
     requires size { length levels.now ≡ length sets.now }
     requires stuck { length stuck.old.items ≡ length sets.now }
     ensures stuck { length stuck.new.items ≡ length stuck.old.items }
@@ -510,10 +555,10 @@ fn next_levels(
         × AreUnmoved ends.now sets.now next.items × FollowTogether ends.now sets.now next.items level)) }
 {
     for _try in 0..sets.len() {
-        let Some(next) = least_raised(alloc, ends, moved, sets, levels, level, stuck.as_slice())?
-        else {
+        let Some(place) = least_place(behind, sets, levels, stuck.as_slice()) else {
             return Ok(None);
         };
+        let next = raised(alloc, behind, levels, level, place)?;
         if follow_together(alloc, ends, sets, next.as_slice(), level)? {
             return Ok(Some(next));
         }
@@ -534,17 +579,6 @@ pub(crate) fn no_levels(alloc: Global, count: usize) -> Result<Vec<usize>, Alloc
     Ok(levels)
 }
 
-// So many places of which none is stuck.
-fn none_stuck(alloc: Global, count: usize) -> Result<Vec<bool>, AllocError>
-    ensures { IfOk result (λ stuck. length stuck.items ≡ count) }
-{
-    let mut stuck = Vec::with_capacity(alloc, count)?;
-    for _place in 0..count {
-        stuck.push(false)?;
-    }
-    Ok(stuck)
-}
-
 /// For each place its level: 0, if it follows none; else those of one level follow together places of lower levels.
 pub(crate) fn levels_of(alloc: Global, ends: &[Way], sets: &[u64]) -> Result<Vec<usize>, AllocError>
     requires { AreWithin (length sets.now) ends.now }
@@ -555,13 +589,13 @@ pub(crate) fn levels_of(alloc: Global, ends: &[Way], sets: &[u64]) -> Result<Vec
     if are_single(sets) {
         return Ok(levels);
     }
-    let moved = all_moved(alloc, ends, sets)?;
-    let mut stuck = none_stuck(alloc, count)?;
+    let behind = all_behind(alloc, ends, sets)?;
+    let mut stuck = none_marked(alloc, count)?;
     for step in 0..count {
         match next_levels(
             alloc,
             ends,
-            moved.as_slice(),
+            behind.as_slice(),
             sets,
             levels.as_slice(),
             count - step,
