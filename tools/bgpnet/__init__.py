@@ -16,7 +16,7 @@ The program
     jobs        work of several threads, told in order
 
 What follows of a network
-    live        the paths that can come, and what is passed over
+    live        the paths that can come, what routers choose of them, and what is passed over
     stable      stable assignments, and whether there is a dispute wheel
     wheels      a small dispute wheel
     timing      which timing decides between two ends

@@ -4,8 +4,9 @@ The program judges and reads what RFC 4271 has; the fields that it leaves unsaid
 finds no fault."""
 from __future__ import annotations
 
+import itertools
 from dataclasses import dataclass
-from typing import Iterator, List, Sequence, Tuple, Union
+from typing import Iterator, Sequence, Tuple, Union
 
 from bgpnet import attributes
 from bgpnet.messages import (HEAD, NOTIFICATION, OPEN, REFRESH_HEAD, ROUTE_REFRESH, UPDATE, Message, Octets,
@@ -262,9 +263,5 @@ def update_of(words: Sequence[str], body: bytes, width: int) -> Update:
 
 def prefixes_behind(word: str, words: Sequence[str]) -> tuple[Prefix, ...]:
     """The prefixes behind a word of the line of an UPDATE, up to the next word."""
-    found: List[Prefix] = []
-    for one in words[words.index(word) + 1:] if word in words else ():
-        if "/" not in one:
-            break
-        found.append(Prefix.read(one))
-    return tuple(found)
+    behind = words[words.index(word) + 1:] if word in words else ()
+    return tuple(map(Prefix.read, itertools.takewhile(lambda one: "/" in one, behind)))

@@ -1,4 +1,4 @@
-"""The paths of a prefix that can come to routers, and what stands in rules that never can."""
+"""The paths of a prefix that can come to routers, what these choose, and what stands in rules that never can come."""
 from __future__ import annotations
 
 from typing import Dict, Iterable, Iterator, Mapping, Optional

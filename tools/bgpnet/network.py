@@ -109,6 +109,11 @@ def words_of(line: str) -> list[str]:
     return [] if words and words[0].startswith("#") else words
 
 
+def numbered(lines: Iterable[str], first: int = 1) -> list[tuple[int, list[str]]]:
+    """The words of the lines that the program does not skip, each with the number of its line."""
+    return [(number, words) for number, words in enumerate(map(words_of, lines), first) if words]
+
+
 def parts_of(text: str) -> tuple[list[str], str | None, list[str]]:
     """The lines of the network, the last of them that of its section where there is one; the section's word, or None;
     and the lines behind it."""
@@ -207,9 +212,8 @@ class Network(Named):
         self.keeping = [int(found[1]) for found in comments_of(KEEPS, lines)]
         self.cut, self.hold, self.width = 4096, 90, 2
         origins: dict[Prefix, int] = {}
-        for number, line in enumerate(lines, 1):
-            words = words_of(line)
-            if not words or words[0] in SECTIONS:
+        for number, words in numbered(lines):
+            if words[0] in SECTIONS:
                 continue
             self.lines.append(" ".join(words))
             first = read_number(words[1])
@@ -284,9 +288,8 @@ def network_asked(asked: argparse.Namespace, name: str) -> tuple[Program, str, N
 def routes_of(lines: Iterable[str]) -> RouteDict:
     """The paths of `route` and `path` lines, by router and prefix. Of two of one router and prefix it is the last."""
     routes = {}
-    for line in lines:
-        words = words_of(line)
-        if words and words[0] in ("route", "path"):
+    for _, words in numbered(lines):
+        if words[0] in ("route", "path"):
             routes[read_number(words[1]), Prefix.read(words[2])] = read_path(words[3])
     return routes
 

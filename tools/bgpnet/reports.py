@@ -4,7 +4,7 @@ from __future__ import annotations
 import json
 from typing import Any, Iterator, Mapping
 
-from bgpnet.network import Path, Prefix, RouteDict, read_path, words_of
+from bgpnet.network import Path, Prefix, RouteDict, numbered, read_path
 from bgpnet.program import Refusal
 
 
@@ -24,9 +24,8 @@ def read_report(text: str, name: str) -> RouteDict:
 def of_lines(text: str, name: str) -> RouteDict:
     """The paths of `route` and `path` lines."""
     routes: RouteDict = {}
-    for number, line in enumerate(text.splitlines(), 1):
-        words = words_of(line)
-        if words[:1] in (["route"], ["path"]):
+    for number, words in numbered(text.splitlines()):
+        if words[0] in ("route", "path"):
             try:
                 routes[int(words[1]), Prefix.named(words[2])] = read_path(words[3])
             except (Refusal, ValueError, IndexError):

@@ -79,15 +79,15 @@ class HearingOrder:
     whole: list[Link]
 
 
-def shortest_orders(network: Network, prefix: Prefix, most_ends: int = 2) -> dict[End, HearingOrder] | None:
-    """The shortest orders of hearings that come to different ends, by the end. None where too many states would have to
-    be looked at before there are so many."""
+def shortest_orders(network: Network, prefix: Prefix) -> dict[End, HearingOrder] | None:
+    """The two shortest orders of hearings that come to different ends, by the end, or fewer. None where too many states
+    would have to be looked at before there are two."""
     hearings = Hearings(network, prefix)
     first, heard = hearings.first()
     before: dict[State, Before] = {first: (None, None, heard)}
     waiting = deque([first])
     ends: dict[End, State] = {}
-    while waiting and len(ends) < most_ends:
+    while waiting and len(ends) < 2:
         state = waiting.popleft()
         moves = hearings.moves(state)
         if not moves:

@@ -8,7 +8,7 @@ from dataclasses import dataclass
 from enum import Enum
 from typing import Any, Collection, Dict, Iterable, Iterator, NamedTuple
 
-from bgpnet.network import Ends, Link, Network, Prefix, RouteDict, parts_of, read_path, words_of
+from bgpnet.network import Ends, Link, Network, Prefix, RouteDict, numbered, parts_of, read_path, words_of
 
 # The events that are commands.
 COMMANDS = ("start", "stop", "reset", "originate", "withdraw", "restart", "snapshot")
@@ -104,7 +104,7 @@ class Event:
 def orders_of(text: str) -> list[int]:
     """The numbers of the lines of a text that are orders."""
     above, section, rest = parts_of(text)
-    return [number for number, line in enumerate(rest, len(above) + 1) if words_of(line)] if section else []
+    return [number for number, _ in numbered(rest, len(above) + 1)] if section else []
 
 
 def events_of(trace: Iterable[str], orders: Iterable[int]) -> list[Event]:

@@ -83,13 +83,8 @@ def read_prefix(word):
     return Prefix.read(word)
 
 
-def words_of_line(argv):
-    """The words before and behind `--`; the latter are files of the second set."""
-    at = argv.index("--") if "--" in argv else len(argv)
-    return argv[:at], argv[at + 1:]
-
-
 def asked_words():
+    """The words of the command line, and those behind `--`, files of the second set."""
     words = Words(__doc__)
     words.add_argument("files", metavar="FILE", nargs="*", help="the configuration of a router")
     words.add_argument("--bird", metavar="FILE", nargs="+", action="extend", default=[],
@@ -112,8 +107,8 @@ def asked_words():
     words.add_argument("--ties", action="store_true", help="play the orders of ties, and list the ends")
     words.add_argument("--check", action="store_true",
                        help="what is other in the files behind -- than in those before it")
-    before, behind = words_of_line(sys.argv[1:])
-    asked = words.parse_args(before)
+    at = sys.argv.index("--") if "--" in sys.argv else len(sys.argv)
+    asked, behind = words.parse_args(sys.argv[1:at]), sys.argv[at + 1:]
     asked.files += [word for word in asked.prefix if prefix_of(word) is None]
     asked.prefix = [read_prefix(word) for word in asked.prefix if prefix_of(word) is not None]
     asked.files += asked.bird

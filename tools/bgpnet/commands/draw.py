@@ -16,7 +16,7 @@ of more than twelve routers a browser shows the rule of the one under the pointe
 providers. A comment `# 30 at 2 1` puts router 30 two steps to the right and one down, and `# 30 called west` writes
 that name into its circle. A legend says what is what."""
 from bgpnet.films import drawn_routes, svg_of
-from bgpnet.network import network_asked, routes_of, words_of
+from bgpnet.network import network_asked, numbered, routes_of
 from bgpnet.playing import chosen_prefix, state_behind
 from bgpnet.program import Refusal, Words, read_text, tool, write_text
 
@@ -24,11 +24,11 @@ from bgpnet.program import Refusal, Words, read_text, tool, write_text
 def reported(network, name):
     """The routes of a report, the last of each router and prefix."""
     routes = {}
-    for number, line in enumerate(read_text(name).splitlines(), 1):
-        if words_of(line)[:1] != ["route"]:
+    for number, words in numbered(read_text(name).splitlines()):
+        if words[0] != "route":
             continue
         try:
-            found = routes_of([line])
+            found = routes_of([" ".join(words)])
         except (ValueError, IndexError):
             raise Refusal(f"{name}:{number}: no `route AS PREFIX PATH`") from None
         for (router, _), path in found.items():

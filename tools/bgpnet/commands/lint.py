@@ -16,7 +16,7 @@ where nothing is named the routes may still be others than was meant: tools/sett
 import sys
 
 from bgpnet.live import listed_paths, warnings
-from bgpnet.network import Prefix, lines_text, parts_of, read_address, read_network, read_number, words_of
+from bgpnet.network import Prefix, lines_text, numbered, parts_of, read_address, read_network, read_number
 from bgpnet.program import Program, Refusal, Words, read_text, tool
 from bgpnet.tracing import Moment, events_of, orders_of, rest_bound
 
@@ -27,20 +27,11 @@ FOUND = 3
 
 def host_bits(text):
     """The prefixes that have bits past their length, each with its line."""
-    for number, line in enumerate(text.split("\n"), 1):
-        words = words_of(line)
+    for number, words in numbered(text.split("\n")):
         if len(words) > 2 and words[0] in WITH_PREFIX:
             prefix = Prefix.read(words[2])
             if read_address(words[2].split("/")[0]) != prefix.address:
                 yield number, f"{words[2]} has bits past its length: it is read as {prefix}"
-
-
-def link_lines(above):
-    """The line of each link."""
-    for number, line in enumerate(above, 1):
-        words = words_of(line)
-        if words[:1] == ["link"]:
-            yield tuple(map(read_number, words[1:])), number
 
 
 class Sessions:
@@ -126,11 +117,12 @@ def of_schedule(network, above, orders, decided):
     if not orders:
         yield section, "the schedule has no order"
         return
-    restarts = any(words_of(line)[:1] == ["restart"] and read_number(words_of(line)[1]) for line in above)
+    restarts = any(words[0] == "restart" and read_number(words[1]) for _, words in numbered(above))
     sessions = Sessions(network, restarts)
     for line, words in orders:
         sessions.obey(line, words)
-    yield from sessions.end(dict(link_lines(above)))
+    yield from sessions.end({tuple(map(read_number, words[1:])): line for line, words in numbered(above)
+                             if words[0] == "link"})
     originated = {Prefix.read(words[2]) for _, words in orders if words[0] == "originate"}
     if network.origins and not originated:
         yield section, "no order originates a prefix: no router has a route"
@@ -159,7 +151,7 @@ def found_in(program, text, name):
         yield line, what
     if section == "schedule":
         above = parts_of(text)[0]
-        orders = [(number, words_of(line)) for number, line in enumerate(rest, len(above) + 1) if words_of(line)]
+        orders = numbered(rest, len(above) + 1)
         decided = {int(line.split()[1]): line for line in said if line.startswith("snapshot ")}
         found = list(of_schedule(network, above, orders, decided))
         yield from found

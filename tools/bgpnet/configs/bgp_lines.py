@@ -31,7 +31,7 @@ class BgpLines(Blocks):
     def do_again(self, words, line):
         """`router bgp` without a number is the one that is there."""
         if self.router.asn is None:
-            self.refuse(f"'{line.strip()}': {REFUSED['cut']}")
+            self.refuse(f"'{line}': {REFUSED['cut']}")
         self.block = "bgp"
 
     def do_router_id(self, words, line):
@@ -78,7 +78,7 @@ class BgpLines(Blocks):
                 first = address >> 24
                 written = address, 0 if not address else 8 if first < 128 else 16 if first < 192 else 24
         if written[0] >> 24 >= 224:
-            self.refuse(f"'{line.strip()}': no network of hosts, and FRR's peers pass it over")
+            self.refuse(f"'{line}': no network of hosts, and FRR's peers pass it over")
         prefix = Prefix(written[0] & mask_of(written[1]), written[1])
         self.router.networks[prefix] = Network(prefix, rest[1] if rest else None, self.place,
                                                self.router.default_preference)
@@ -133,7 +133,7 @@ class BgpLines(Blocks):
 
     def do_group(self, words, line):
         if address_of(words[1]) is not None:
-            self.refuse(f"'{line.strip()}': {NOT_TAKEN}: an address is no name of a group")
+            self.refuse(f"'{line}': {NOT_TAKEN}: an address is no name of a group")
         if words[1] not in self.router.groups:
             self.router.groups[words[1]] = Neighbor(words[1], None, self.place, self.router.activates)
 
@@ -147,21 +147,21 @@ class BgpLines(Blocks):
             self.lost.add(words[1])
             return
         if group is None:
-            self.refuse(f"'{line.strip()}': {NOT_TAKEN}: no line above makes the group")
+            self.refuse(f"'{line}': {NOT_TAKEN}: no line above makes the group")
         if address is None:
-            self.refuse(f"'{line.strip()}': {NOT_TAKEN}: '{words[1]}' is no address")
+            self.refuse(f"'{line}': {NOT_TAKEN}: '{words[1]}' is no address")
         found = router.neighbors.get(address)
         if found is None:
             found = router.neighbors[address] = Neighbor(words[1], address, self.place, group.is_active)
         elif found.group is group:
             return
         elif found.group is not None:
-            self.refuse(f"'{line.strip()}': {NOT_TAKEN}: it is in the group {found.group.key}")
+            self.refuse(f"'{line}': {NOT_TAKEN}: it is in the group {found.group.key}")
         elif group.remote is None and found.remote is not None:
             members = [one for one in router.neighbors.values() if one.group is group]
             first = min(members, key=lambda one: one.address, default=found)
             if first.remote is None:
-                self.refuse(f"'{line.strip()}': {NOT_TAKEN}: the group's first member, {first.place}, has no AS yet")
+                self.refuse(f"'{line}': {NOT_TAKEN}: the group's first member, {first.place}, has no AS yet")
         found.group, found.is_active = group, group.is_active
 
     def say(self, words, kind, value):
@@ -187,7 +187,7 @@ class BgpLines(Blocks):
         self.say(words, kind, MOST_HOPS if words[-1] == kind else number_of(words[-1]))
         other = self.neighbor(words[1]).line("ebgp-multihop") if words[0] != "no" and kind == "ttl-security" else None
         if other:
-            self.refuse(f"'{line.strip()}': {NOT_TAKEN}: {other.place} has ebgp-multihop")
+            self.refuse(f"'{line}': {NOT_TAKEN}: {other.place} has ebgp-multihop")
 
     def do_interval(self, words, line):
         self.say(words, "interval", int(words[3]) if words[0] != "no" else None)
@@ -196,7 +196,7 @@ class BgpLines(Blocks):
         """Routes that outlast a restart."""
         self.named_neighbor(words)
         self.router.keeps_routes = True
-        self.router.warn(self.place, f"'{line.strip()}': a peer's routes are kept while it restarts, 120 seconds if it "
+        self.router.warn(self.place, f"'{line}': a peer's routes are kept while it restarts, 120 seconds if it "
                                      "says nothing else: what is said here of a crash and of a silent failure is not "
                                      "what FRR does meanwhile")
 
@@ -229,7 +229,7 @@ class BgpLines(Blocks):
             return
         other = {"distribute-list": "prefix-list", "prefix-list": "distribute-list"}.get(kind)
         if other and found.policy(other, direction):
-            self.refuse(f"'{line.strip()}': {NOT_TAKEN}: {found.policy(other, direction).place} has a {other}")
+            self.refuse(f"'{line}': {NOT_TAKEN}: {found.policy(other, direction).place} has a {other}")
         found.policies[kind, direction] = Line(name, self.place)
 
     def do_send(self, words, line):

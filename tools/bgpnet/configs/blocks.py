@@ -143,20 +143,20 @@ class Blocks:
         return self.refuse(f"'{' '.join(words)}' is no line that is known here")
 
     def act(self, match, line):
-        action, words = match.command.action, list(match.words)
+        action, words, line = match.command.action, list(match.words), line.strip()
         if action in ("foreign", "addresses", "warned", "ignored") and self.block == "config":
             self.router.foreign.add(self.place.line)
         if match.command.why and self.block == "route-map" and action not in ("undone", "cut"):
-            why = self.place, f"'{line.strip()}': {match.command.why}"
+            why = self.place, f"'{line}': {match.command.why}"
             self.of_maps.setdefault(self.entry.map_name, []).append(why)
             return
         if match.command.why:
-            self.refuse(f"'{line.strip()}': {match.command.why}")
+            self.refuse(f"'{line}': {match.command.why}")
         if action == "ignored":
             self.named_neighbor(words)
         elif action == "warned":
             self.named_neighbor(words)
-            self.router.warn(self.place, f"'{line.strip()}' is not read")
+            self.router.warn(self.place, f"'{line}' is not read")
         else:
             getattr(self, "do_" + action)(words, line)
 
@@ -168,24 +168,24 @@ class Blocks:
 
     def do_leave(self, words, line):
         if self.block == "config":
-            self.refuse(f"'{line.strip()}' leaves the configuration: FRR refuses what follows")
+            self.refuse(f"'{line}' leaves the configuration: FRR refuses what follows")
         self.block = "bgp" if self.block == "family" else "config"
 
     def do_finish(self, words, line):
         self.router.end = self.place.line
 
     def do_wrong(self, words, line):
-        self.refuse(f"'{line.strip()}': {NOT_TAKEN}")
+        self.refuse(f"'{line}': {NOT_TAKEN}")
 
     def do_old(self, words, line):
-        self.refuse(f"'{line.strip()}': {NOT_TAKEN}: it is 'bgp {' '.join(words[1:3])} ..'")
+        self.refuse(f"'{line}': {NOT_TAKEN}: it is 'bgp {' '.join(words[1:3])} ..'")
 
     def do_foreign(self, words, line):
         self.pass_block("other")
 
     def do_apart(self, words, line):
         """A block on which no IPv4 route of this instance depends."""
-        self.router.warn(self.place, f"'{line.strip()}' is passed over: no IPv4 route of this instance goes by it")
+        self.router.warn(self.place, f"'{line}' is passed over: no IPv4 route of this instance goes by it")
         self.pass_block("family" if words[0] == "address-family" else "other")
         if self.block == "config":
             self.router.foreign.add(self.place.line)
@@ -198,7 +198,7 @@ class Blocks:
         if words[0] == "hostname":
             self.router.host = words[1]
         if not words[1][0].isalnum() or len(words[1]) > MOST_HOST:
-            self.refuse(f"'{line.strip()}': {NOT_TAKEN}: a name begins with a letter or a digit, and has at most "
+            self.refuse(f"'{line}': {NOT_TAKEN}: a name begins with a letter or a digit, and has at most "
                         f"{MOST_HOST} signs")
         if self.block == "config":
             self.router.foreign.add(self.place.line)

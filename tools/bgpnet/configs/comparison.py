@@ -119,9 +119,9 @@ def stable_ends(program, paths, origin):
 class Ends:
     """What the program plays of a set, and what its stable ends are."""
 
-    def __init__(self, program, ranks, most=None):
+    def __init__(self, program, ranks):
         self.ranks = ranks
-        self.is_settled, routes = play(program, ranks, most)
+        self.is_settled, routes = play(program, ranks)
         self.played = {prefix: {asn: routes[asn, prefix] for asn in ranks.set.routers} for prefix in ranks.origins}
         self.stable, self.wheel = {}, {}
         for prefix, origin in ranks.origins.items():

@@ -6,11 +6,9 @@ from bgpnet.configs.ways import Way, crossed
 class Judge:
     """Judges the paths of a prefix."""
 
-    def __init__(self, routers, prefix, origin, network, with_notes=False):
-        self.set, self.prefix = routers, prefix
-        own = origin.own_route(network, {} if with_notes else None)
-        self.known = {(origin.number,): own}
-        self.origin = origin.number
+    def __init__(self, routers, prefix, origin, network):
+        self.set, self.prefix, self.origin = routers, prefix, origin.number
+        self.known = {(origin.number,): origin.own_route(network)}
 
     def told(self, path):
         """The route of a router by a path that its peer has, or the denial; None where the way can't be."""

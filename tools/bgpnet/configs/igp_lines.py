@@ -35,7 +35,7 @@ class IgpLines(Blocks):
     def do_static(self, words, line):
         """`ip route PREFIX NEXT-HOP|INTERFACE [DISTANCE]`, or `ip route ADDRESS MASK ..`."""
         self.router.foreign.add(self.place.line)
-        self.router.warn_alone(self.place, f"'{line.strip()}' is not read")
+        self.router.warn_alone(self.place, f"'{line}' is not read")
         rest, prefix = words[2:], prefix_of(words[2])
         if prefix is None and len(rest) > 1 and address_of(rest[0]) is not None and address_of(rest[1]) is not None:
             prefix, rest = (address_of(rest[0]), self.length_of(rest[1])), rest[1:]
@@ -59,7 +59,7 @@ class IgpLines(Blocks):
         self.router.igp.resolves_by_default = words[0] != "no"
 
     def unread(self, line):
-        self.router.igp.unread.append((self.place, line.strip()))
+        self.router.igp.unread.append((self.place, line))
 
     def igp_line(self, words):
         """Keeps what a line says that stands below an interface or an IGP."""

@@ -2,7 +2,7 @@
 from collections import namedtuple
 
 from bgpnet.configs.router import Line, Neighbor, Network
-from bgpnet.configs.routes import Denial, Route
+from bgpnet.configs.routes import Route
 from bgpnet.configs.speaker import Speaker
 from bgpnet.program import grouped
 
@@ -35,10 +35,6 @@ class Origins(Speaker):
 
     def told(self, neighbor, far, prefix, way):
         return way.route.copy()
-
-    def hears_nothing(self):
-        """Why no router tells it anything."""
-        return Denial(self.place, "it announces, and hears nothing")
 
     def announced(self, network):
         return tuple(router.announced(router.networks[network.prefix]) for router in self.origins)

@@ -47,17 +47,16 @@ class PolicyLines(Blocks):
         if not doubles:
             found.add(found.next_number() if number is None else number, entry)
         elif prefix_of(rest[0]) and prefix_of(rest[0])[0] != block.address:
-            self.refuse(f"'{line.strip()}': {NOT_TAKEN}: {found.entries[doubles[0]].place} says the same")
+            self.refuse(f"'{line}': {NOT_TAKEN}: {found.entries[doubles[0]].place} says the same")
         else:
-            self.router.warn(self.place, f"'{line.strip()}': FRR takes it for a double of "
+            self.router.warn(self.place, f"'{line}': FRR takes it for a double of "
                                          f"{found.entries[doubles[0]].place}, and drops it")
 
     def check_form(self, found, number, text, line):
         """Refuses an entry of a number that another form of entry has: of that FRR may leave something."""
         former = found.entries.get(number)
         if former and form_of(former.text) != form_of(text):
-            self.refuse(f"'{line.strip()}': {former.place} says something of another form by this number: leave one "
-                        "out")
+            self.refuse(f"'{line}': {former.place} says something of another form by this number: leave one out")
 
     @staticmethod
     def block_of(rest):
@@ -83,7 +82,7 @@ class PolicyLines(Blocks):
         if other is None or other == number:
             found.add(found.next_number() if number is None else number, entry)
         elif has_hosts:
-            self.refuse(f"'{line.strip()}': {NOT_TAKEN}: {found.entries[other].place} says the same")
+            self.refuse(f"'{line}': {NOT_TAKEN}: {found.entries[other].place} says the same")
 
     def span_of(self, rest, line):
         """The prefixes that an entry of a prefix-list has, the text that tells doubles, and whether bits of hosts are
@@ -92,7 +91,7 @@ class PolicyLines(Blocks):
             return Block(0, 0, 0, 32), "any", False
         (address, length), bounds = prefix_of(rest[0]), dict(zip(rest[1::2], map(int, rest[2::2])))
         if not length <= bounds.get("ge", length) <= bounds.get("le", 32) or bounds.get("le", length) < length:
-            self.refuse(f"'{line.strip()}': {NOT_TAKEN}: it has to be length <= ge <= le")
+            self.refuse(f"'{line}': {NOT_TAKEN}: it has to be length <= ge <= le")
         bounds = {word: bound for word, bound in bounds.items() if bound}  # to FRR a 0 is none
         most = bounds.get("le", 32 if "ge" in bounds else length)
         block = Block(address & mask_of(length), mask_of(length), bounds.get("ge", length), most)
@@ -102,7 +101,7 @@ class PolicyLines(Blocks):
         try:
             return make(text)
         except BadExpression as why:
-            return self.refuse(f"'{line.strip()}': the expression has {why}")
+            return self.refuse(f"'{line}': the expression has {why}")
 
     def do_paths(self, words, line):
         permits, number, _ = self.numbered(words, 4)
@@ -121,10 +120,10 @@ class PolicyLines(Blocks):
         name, is_standard = words[at - 1], words[2] == "standard" or words[2].isdecimal() and int(words[2]) < 100
         permits, number, rest = self.numbered(words, at)
         if kind == "large-community" and at == 4 and name.isdigit():
-            self.refuse(f"'{line.strip()}': {NOT_TAKEN}: a number is no name here")
+            self.refuse(f"'{line}': {NOT_TAKEN}: a number is no name here")
         found = self.list_of(kind, name, CommunityList)
         if found.entries and callable(next(iter(found.entries.values())).value) == is_standard:
-            self.refuse(f"'{line.strip()}': {NOT_TAKEN}: {found.place} is a list of the other kind")
+            self.refuse(f"'{line}': {NOT_TAKEN}: {found.place} is a list of the other kind")
         if is_standard:
             value = sorted_set(self.communities(rest, LARGE_WORDS[kind], line))
             text = value
@@ -138,7 +137,7 @@ class PolicyLines(Blocks):
         for word in words:
             one = read(word)
             if one is None:
-                self.refuse(f"'{line.strip()}': {NOT_TAKEN}: '{word}' is no community")
+                self.refuse(f"'{line}': {NOT_TAKEN}: '{word}' is no community")
             found.append(one)
         return tuple(found)
 
@@ -155,18 +154,18 @@ class PolicyLines(Blocks):
 
     def check_permits(self, line):
         if not self.entry.permits:
-            self.refuse(f"'{line.strip()}': {NOT_TAKEN} in an entry that denies")
+            self.refuse(f"'{line}': {NOT_TAKEN} in an entry that denies")
 
     def do_goto(self, words, line):
         self.check_permits(line)
         number = int(words[-1])
         if number <= self.entry.number:
-            self.refuse(f"'{line.strip()}': {NOT_TAKEN}: it goes back")
+            self.refuse(f"'{line}': {NOT_TAKEN}: it goes back")
         self.entry.next = number
 
     def do_call(self, words, line):
         if words[1] == self.entry.map_name:
-            self.refuse(f"'{line.strip()}': {NOT_TAKEN}: the map calls itself")
+            self.refuse(f"'{line}': {NOT_TAKEN}: the map calls itself")
         self.entry.call = Line(words[1], self.place)
 
     def do_match_list(self, words, line):
@@ -180,7 +179,7 @@ class PolicyLines(Blocks):
 
     def do_match_value(self, words, line):
         if words[1] == "metric" and int(words[2]) == 0:
-            self.refuse(f"'{line.strip()}': {NOT_TAKEN}, and the entry then fits everything")
+            self.refuse(f"'{line}': {NOT_TAKEN}, and the entry then fits everything")
         value = ORIGINS.index(words[2]) if words[1] == "origin" else int(words[2])
         self.entry.matches[words[1]] = value, self.place
 
@@ -189,18 +188,18 @@ class PolicyLines(Blocks):
         sign = word[0] if word[0] in "+-" else ""
         number = number_of(word[len(sign):])
         if number is None or number > MOST:
-            self.refuse(f"'{line.strip()}': {NOT_TAKEN}: '{word}' is no number from 0 to {MOST}")
+            self.refuse(f"'{line}': {NOT_TAKEN}: '{word}' is no number from 0 to {MOST}")
         if sign and not number and not takes_nothing:
-            self.refuse(f"'{line.strip()}': {NOT_TAKEN}: nothing is added")
+            self.refuse(f"'{line}': {NOT_TAKEN}: nothing is added")
         return sign, number
 
     def set(self, kind, value, line, form=0):
         if not self.entry.set(kind, form, value, self.place):
-            self.router.warn(self.place, f"'{line.strip()}': behind another form of it FRR drops both")
+            self.router.warn(self.place, f"'{line}': behind another form of it FRR drops both")
 
     def do_set_metric(self, words, line):
         if words[2].lstrip("+-") == "rtt":
-            self.refuse(f"'{line.strip()}': the metric depends on time")
+            self.refuse(f"'{line}': the metric depends on time")
         sign, number = self.changed(words[2], line, False)
         self.set("metric", (sign, number), line, ("", "+", "-").index(sign))
 
@@ -213,7 +212,7 @@ class PolicyLines(Blocks):
     def numbers(self, words, line):
         numbers = tuple(map(number_of, words))
         if None in numbers or not all(1 <= number <= GREATEST_ASN for number in numbers):
-            self.refuse(f"'{line.strip()}': {NOT_TAKEN}: AS numbers are 1 to {GREATEST_ASN}")
+            self.refuse(f"'{line}': {NOT_TAKEN}: AS numbers are 1 to {GREATEST_ASN}")
         return numbers
 
     def do_set_prepend(self, words, line):
@@ -237,10 +236,10 @@ class PolicyLines(Blocks):
         adds = [word for word in rest if word and "additive".startswith(word)]
         numbers = [self.full(word, is_large) for word in rest if word not in adds]
         if not numbers or is_large and adds and (rest[-1] != "additive" or len(adds) > 1):
-            self.refuse(f"'{line.strip()}': {NOT_TAKEN}, or it is not read: 'additive' stands behind communities")
+            self.refuse(f"'{line}': {NOT_TAKEN}, or it is not read: 'additive' stands behind communities")
         value = sorted_set(self.communities(numbers, LARGE_WORDS[kind], line))
         if STALE in value:
-            self.refuse(f"'{line.strip()}': llgr-stale: FRR likes such a route less than any other, and of two such "
+            self.refuse(f"'{line}': llgr-stale: FRR likes such a route less than any other, and of two such "
                         "ones it takes that which came first")
         self.set(kind, (value, bool(adds)), line, 1)
 

@@ -260,7 +260,8 @@ def looped(router, neighbor, route):
 
 def weigh(neighbor, route):
     """Gives a route the weight that a line of its neighbor says."""
-    if weight := neighbor.weight_line():
+    weight = neighbor.line("weight")
+    if weight and weight.name:
         route.weight = weight.name
         route.note("weight", f"{weight.place} neighbor weight")
 

@@ -39,10 +39,6 @@ class Neighbor:
         found = self.policies.get((kind, direction))
         return found if found is not None or self.group is None else self.group.policies.get((kind, direction))
 
-    def weight_line(self):
-        line = self.line("weight")
-        return line if line and line.name else None
-
     def sends(self, kind):
         return self.value(("send", kind), True)
 
@@ -90,7 +86,7 @@ class Router(Speaker):
 
     def told(self, neighbor, far, prefix, way):
         if far.router.is_origins:
-            return far.router.hears_nothing()
+            return Denial(far.router.place, "it announces, and hears nothing")
         if far.router.asn == self.asn:
             return inside.told(self, neighbor, prefix, way.route)
         told = route.told(self, neighbor, prefix, way.route, self.is_own(way))

@@ -106,9 +106,9 @@ def explain(ranks, word, prefix, names):
 
 # ---- ends
 
-def play(program, ranks, most=None, lines=None):
+def play(program, ranks, most=None):
     """Whether the program settles, and the routes in which it ends, by router and prefix."""
-    lines = lines or network_lines(ranks, most)[0]
+    lines = network_lines(ranks, most)[0]
     said = program.answer(["play"], lines_text(lines + schedule_lines(lines)), "the network")
     return said[0].endswith("settled"), routes_of(said[said.index("now") + 1:])
 

@@ -1,6 +1,8 @@
 """Runs filters: each statement becomes a function of the state of a run.
 
 It answers None, or how the filter or the function ends there: a word, a value and the place."""
+from functools import partial
+
 from bgpnet.configs.bird.operations import ELEMENTS, has_type, wrong_type
 from bgpnet.configs.bird.run import Failure, checked, function_of
 from bgpnet.configs.bird.values import TYPES, Quad, type_of
@@ -180,10 +182,6 @@ def set_variable(node, op="VAR_SET"):
     return placed(node, run)
 
 
-def declared(node):
-    return set_variable(node, "VAR_INIT")
-
-
 def of_type(value, op, type):
     """A value that is kept as one of a type. What is undefined is none, and an address may be four octets."""
     if type == "quad" and TYPES.get(value.__class__) == "ip":
@@ -234,8 +232,9 @@ def unset(node):
 
 
 STATEMENTS = {"block": block, "if": conditional, "case": switch, "for": loop, "accept": ending, "reject": ending,
-              "print": printed, "printn": printed, "return": returned, "do": called, "declare": declared,
-              "set variable": set_variable, "set attribute": set_attribute, "unset": unset}
+              "print": printed, "printn": printed, "return": returned, "do": called,
+              "declare": partial(set_variable, op="VAR_INIT"), "set variable": set_variable,
+              "set attribute": set_attribute, "unset": unset}
 
 
 # ---- what filters ask
