@@ -9,13 +9,14 @@ tests with their tests, then the edits. It writes what the commands print, each 
 command began, to files in FOLDER, and last the seconds of a processor that the command took. What earlier runs kept is
 not proved again: a whole profile wants a new machine. The second form reads the files, and prints a table of crates, in
 seconds of a processor, and the N dearest lines (40), by the clock. A crate is checked by one job, so the time between
-two lines is that of the function that the second one names; it is longer where other work goes on."""
+two lines is that of the function that the second one names; it is longer where other work goes on. The first edit of a
+crate has the proof of the crate from which edits begin in its time. Crates of which a command failed are named."""
 import os, pathlib, re, shutil, subprocess, sys, tempfile, threading, time
 
 top = pathlib.Path(__file__).resolve().parent.parent
 CHECKED = re.compile(r"checked (\S+), \d+ of \d+")
 EDIT = re.compile(r"rt: must-fail (\S+\.edit):")
-END = re.compile(r"end: status \S+, (\S+) seconds")
+END = re.compile(r"end: status (\S+), (\S+) seconds")
 KINDS = {"proofs": ["rt", "check", "--jobs", "1"], "tests": ["rt", "check", "--test", "--jobs", "1"], "edits": ["rt", "must-fail"]}
 
 
@@ -97,8 +98,8 @@ def copy_sources(folder):
 
 
 def steps(path):
-    """Each step that a file tells of with its seconds, and the seconds of a processor that all took."""
-    found, last, whole = [], 0.0, 0.0
+    """Each step that a file tells of with its seconds, the seconds of a processor that all took, and the status."""
+    found, last, whole, status = [], 0.0, 0.0, "none"
     for line in path.read_text().splitlines():
         at, said = line.split(" ", 1)
         named, end = CHECKED.match(said) or EDIT.match(said), END.match(said)
@@ -106,17 +107,19 @@ def steps(path):
             found.append((float(at) - last, named[1]))
             last = float(at)
         elif end:
-            whole = float(end[1])
-    return found, whole
+            status, whole = end[1], float(end[2])
+    return found, whole, status
 
 
 def show(folder, most):
     known, _ = known_crates()
     total, dearest = {}, []
     for path in sorted(folder.iterdir()):
-        kind, crate = path.name.split(".", 1)
+        kind, _, crate = path.name.partition(".")
         if kind in KINDS and crate in known:
-            found, whole = steps(path)
+            found, whole, status = steps(path)
+            if status != "0":
+                print(f"{kind} of {crate}: status {status}")
             total[kind, crate] = whole
             dearest += [(seconds, kind, name) for seconds, name in found]
     for kind in KINDS:

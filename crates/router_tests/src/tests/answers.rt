@@ -33,7 +33,8 @@ pub(super) fn takes_item(router: &mut Router<'_>, peer: Asn, item: &Item) -> Ans
     router.take_item(peer, item)
 }
 
-// What an item is answered by a router whose caller has room for the event, or has none.
+// What an item is answered by a router whose caller has room for the event, or has none; room is never asked for where
+// no link leads to the peer.
 pub(super) fn takes_with(
     router: &mut Router<'_>,
     peer: Asn,
@@ -48,7 +49,7 @@ pub(super) fn takes_with(
             return router.take_at(place, other, item, room);
         }
     }
-    Err(RouterError::NoSuchPeer)
+    router.take_item(peer, item)
 }
 
 pub(super) fn may_take(router: &Router<'_>, peer: Asn) -> bool {
