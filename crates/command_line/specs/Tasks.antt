@@ -10,8 +10,8 @@ use Rattle.thread_engines.specs.Running.{LinesRun, Runs}
 use Rattle.thread_engines.specs.Recording.{LinesRecord, Records}
 use Rattle.safe_engine.specs.Answers.{Judges}
 use Rattle.stable_engine.specs.Answers.{Lists}
-use Rattle.command_line.specs.declared.tasks.Task.{Task}
-use Rattle.command_line.specs.declared.tasks.Task.TheVariants as task
+use Rattle.command_words.specs.declared.asked.Task.{Task}
+use Rattle.command_words.specs.declared.asked.Task.TheVariants as task
 use Rattle.command_line.specs.declared.tasks.ThreadTask.{ThreadTask}
 use Rattle.command_line.specs.declared.tasks.ThreadTask.TheVariants as threads
 

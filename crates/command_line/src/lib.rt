@@ -1,32 +1,33 @@
 //! The words behind the program's name, and the engines that they ask for.
 //!
-//! [`read_words`] says what the words ask for: a [`Task`] that starts no thread, a [`ThreadTask`], or a text, which is
-//! a help or what is wrong with the words. [`run_task`] and [`run_thread_task`] hand a task to an engine of
-//! `text_engines`, `stable_engine`, `safe_engine`, `play_engine`, `trace_engine` or `thread_engines`, and their
-//! contracts say exactly what is written for what is read. `run_task` has no bound by which it could wait for a thread:
-//! it returns. [`run_with`] does what the words ask for, and may wait. It answers a status exactly where no read and no
-//! write failed. [`status_of`] is the status that the program ends with.
+//! [`run_task`] hands a task of `command_words` that starts no thread to an engine of `text_engines`, `stable_engine`,
+//! `safe_engine`, `play_engine` or `trace_engine`, [`run_thread_task`] a [`ThreadTask`] to one of `thread_engines`, and
+//! their contracts say exactly what is written for what is read. `run_task` has no bound by which it could wait for a
+//! thread: it returns. [`run_with`] does what the words ask for, and may wait. It answers a status exactly where no
+//! read and no write failed. [`status_of`] is the status that the program ends with.
 #![tactic(auto)]
 
 ghost use Rattle.std.specs.Prelude.{◌≡◌, true, false, ◌⊎◌, IfOk, IsErr, OnOk, OnErr};
 ghost use Rattle.text_engines.specs.declared.status.TheConstants.{STOPPED};
 
-mod helps;
-pub mod laws;
 mod tasks;
-mod words;
 
-pub use helps::{
-    CHECK_HELP, CUT_HELP, DECODE_HELP, PLAY_HELP, RECORD_HELP, RUN_HELP, SAFE_HELP, STABLE_HELP,
-    TOP_HELP, TRACE_HELP, WHY_HELP,
-};
+use command_words::{Asked, ThreadNumbers, read_words};
 use std::alloc::{AllocError, Global};
 use std::sync::Wait;
 use std::thread::Threads;
-pub use tasks::{Task, ThreadTask, run_task, run_thread_task};
+pub use tasks::{ThreadTask, run_task, run_thread_task};
 use text_engines::status::STOPPED;
 use text_engines::{IoStopped, Sink, Source, want_of_memory, write_out};
-pub use words::{Asked, read_words};
+use thread_engines::RunOptions;
+
+// The options of a run in threads.
+fn run_options(numbers: ThreadNumbers) -> RunOptions {
+    RunOptions {
+        turns: numbers.turns,
+        snapshots: numbers.snapshots,
+    }
+}
 
 /// Runs the program on the words behind its name, and answers its status.
 pub fn run_with<R: Threads + Wait + Sync, S: Source, T: Sink>(
@@ -45,7 +46,14 @@ pub fn run_with<R: Threads + Wait + Sync, S: Source, T: Sink>(
 {
     match read_words(alloc, words) {
         Ok(Asked::Task(task)) => run_task(alloc, task, reader, writer),
-        Ok(Asked::Threads(task)) => run_thread_task(rt, alloc, task, reader, writer),
+        Ok(Asked::Run(numbers)) => {
+            let task = ThreadTask::Run(run_options(numbers));
+            run_thread_task(rt, alloc, task, reader, writer)
+        }
+        Ok(Asked::Record(numbers)) => {
+            let task = ThreadTask::Record(run_options(numbers));
+            run_thread_task(rt, alloc, task, reader, writer)
+        }
         Ok(Asked::Text(text, status)) => {
             write_out(writer, text.as_bytes())?;
             Ok(status)

@@ -1,4 +1,4 @@
-//! What the words ask for beside a text, and the engines that do it.
+//! The engines that do what the words ask for.
 
 ghost use Rattle.std.specs.Prelude.{IfOk};
 ghost use Rattle.net_text.specs.Lexing.{lines_of};
@@ -6,12 +6,11 @@ ghost use Rattle.text_engines.specs.Decoding.{output};
 ghost use Rattle.text_engines.specs.Engine.{IsAnswered};
 ghost use Rattle.command_line.specs.Tasks.{TaskPrints, LinesPrintBy, ThreadsPrint};
 
-use bgp_codec::Rule;
+use command_words::Task;
 use net_text::read_network;
 use play_engine::Shown;
 use safe_engine::SafeEngine;
 use stable_engine::StableEngine;
-use stable_search::SearchLimits;
 use std::alloc::{AllocError, Global};
 use std::sync::Wait;
 use std::thread::Threads;
@@ -20,27 +19,6 @@ use text_engines::{
 };
 use thread_engines::{RunOptions, record, run};
 use trace_engine::TraceEngine;
-
-/// A task that starts no thread.
-#[derive(Clone, Copy)]
-pub enum Task {
-    /// Decode under a rule: the width of AS numbers, and the speaker's number where `--peer` names it.
-    Decode(Rule),
-    /// Check an assignment, and list all routers that would move, or name the first.
-    Check(bool),
-    /// Play a schedule.
-    Play,
-    /// Write the run of a schedule as a schedule, with the octets of what is sent, or without.
-    Trace(bool),
-    /// Show the cut of the snapshot of this number.
-    Cut(u32),
-    /// Show what the router of this number knows.
-    Why(u32),
-    /// List all stable assignments, as far as these limits of each dispute let it.
-    Stable(SearchLimits),
-    /// Look for dispute wheels, with at most so many paths of a router without a rule.
-    Safe(usize),
-}
 
 /// A task of threads.
 #[derive(Clone, Copy)]

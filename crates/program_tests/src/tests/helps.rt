@@ -1,8 +1,9 @@
 //! The examples of the helps: what is printed for each is what the help says.
 
-use command_line::{
+use command_line::run_with;
+use command_words::{
     CHECK_HELP, CUT_HELP, DECODE_HELP, PLAY_HELP, RECORD_HELP, RUN_HELP, SAFE_HELP, STABLE_HELP,
-    WHY_HELP, run_with,
+    WHY_HELP,
 };
 use std::alloc::{AllocError, Global};
 use std::sync::Wait;

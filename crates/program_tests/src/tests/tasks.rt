@@ -2,7 +2,8 @@
 
 use bgp_codec::Rule;
 use bgp_values::Width;
-use command_line::{Asked, Task, ThreadTask, read_words, run_task, run_thread_task};
+use command_line::{ThreadTask, run_task, run_thread_task};
+use command_words::{Asked, Task, ThreadNumbers, read_words};
 use stable_search::SearchLimits;
 use std::alloc::Global;
 use std::sync::Wait;
@@ -148,19 +149,19 @@ fn numbers_of_words_are_read(rt: HostRuntime) -> Result<(), Fail> {
     assert!(rt;
         matches!(
             read_words(alloc, &run)?,
-            Asked::Threads(ThreadTask::Run(RunOptions {
+            Asked::Run(ThreadNumbers {
                 turns: 300,
                 snapshots: 5
-            }))
+            })
         )
     );
     assert!(rt;
         matches!(
             read_words(alloc, &["record"])?,
-            Asked::Threads(ThreadTask::Record(RunOptions {
+            Asked::Record(ThreadNumbers {
                 turns: 20_000,
                 snapshots: 20
-            }))
+            })
         )
     );
     assert!(rt; matches!(read_words(alloc, &["--version"])?, Asked::Text(_, 0)));

@@ -1,14 +1,14 @@
-//! What the words behind the program's name ask for, as a value.
+//! What the words behind the program's name ask for, as `clap` finds it in them.
 
 ghost use Rattle.std.specs.Prelude.{◌≡◌};
 ghost use Rattle.std.specs.List.{list_all};
 ghost use Rattle.net_text.specs.Words.{is_digit};
 
+use crate::asked::{Asked, Task, ThreadNumbers};
 use crate::helps::{
     CHECK_HELP, CUT_HELP, DECODE_HELP, PLAY_HELP, RECORD_HELP, RUN_HELP, SAFE_HELP, STABLE_HELP,
     TOP_HELP, TRACE_HELP, WHY_HELP,
 };
-use crate::tasks::{Task, ThreadTask};
 use bgp_codec::{NOBODY, Rule};
 use bgp_values::{Width, greatest_asn};
 use clap::error::ErrorKind;
@@ -16,18 +16,6 @@ use clap::{Arg, ArgAction, ArgMatches, Command, Error};
 use stable_search::SearchLimits;
 use std::alloc::{AllocError, Global};
 use text_engines::status::{DONE, USAGE};
-use thread_engines::RunOptions;
-
-/// What the words ask for.
-#[derive(Drop)]
-pub enum Asked {
-    /// A task that starts no thread.
-    Task(Task),
-    /// A task of threads.
-    Threads(ThreadTask),
-    /// A text to write, and the status to end with.
-    Text(String, u8),
-}
 
 // What `--version` says behind the program's name.
 const VERSION: &str = "0.1.0";
@@ -139,8 +127,8 @@ fn most_paths(found: &ArgMatches) -> usize {
     found.get_one::<u32>("paths").unwrap_or(MOST_PATHS) as usize
 }
 
-fn run_options(found: &ArgMatches) -> RunOptions {
-    RunOptions {
+fn thread_numbers(found: &ArgMatches) -> ThreadNumbers {
+    ThreadNumbers {
         turns: found.get_one::<u32>("turns").unwrap_or(TURNS),
         snapshots: found.get_one::<u32>("snapshots").unwrap_or(SNAPSHOTS),
     }
@@ -297,8 +285,8 @@ fn asked_by(alloc: Global, matches: &ArgMatches) -> Result<Asked, AllocError> {
                 .map(|router| Task::Why(router)),
             "router",
         ),
-        b"run" => Ok(Asked::Threads(ThreadTask::Run(run_options(found)))),
-        b"record" => Ok(Asked::Threads(ThreadTask::Record(run_options(found)))),
+        b"run" => Ok(Asked::Run(thread_numbers(found))),
+        b"record" => Ok(Asked::Record(thread_numbers(found))),
         _ => asked_decode(alloc, found),
     }
 }

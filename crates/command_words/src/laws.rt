@@ -1,7 +1,7 @@
 //! Which numbers the constants are.
 
 ghost use Rattle.std.specs.Prelude.{◌≡◌};
-ghost use Rattle.command_line.specs.declared.words.TheConstants.{TURNS, SNAPSHOTS, MOST_CHOICES, STEPS, MOST_PATHS, MOST_SNAPSHOTS};
+ghost use Rattle.command_words.specs.declared.words.TheConstants.{TURNS, SNAPSHOTS, MOST_CHOICES, STEPS, MOST_PATHS, MOST_SNAPSHOTS};
 
 /// The numbers of the words that are not named: chores of a router and snapshots of `run`, choices and steps of `stable`,
 /// paths of `safe`; and the most snapshots that can be named.
