@@ -1,12 +1,14 @@
 -- The paths of each router, the best first, and what each waits for.
-use Rattle.std.specs.Prelude.{ℕ, ◌≡◌, ◌<◌, ◌≤◌, ◌+◌, ◌^◌, List, [], ◌∷◌, length, map, slice_index, slice_index_or, Some, None}
+use Rattle.std.specs.Prelude.{ℕ, ◌≡◌, ◌↔◌, ◌<◌, ◌≤◌, ◌+◌, ◌^◌, List, [], ◌∷◌, length, map, slice_index, slice_index_or, Some, None}
 use Rattle.std.specs.List.{All, Contains}
 use Rattle.prefix_lanes.specs.Bits.{PrefixView}
 use Rattle.ranked_policy.specs.Paths.{BeginsWith, EndsWith}
 use Rattle.ranked_policy.specs.Plans.{Linked, numbers}
+use Rattle.ranked_policy.specs.declared.network.Link.{Link}
 use Rattle.ranked_policy.specs.declared.network.RankRule.{RankRule}
 use Rattle.ranked_policy.specs.Policies.{Table, IsTableOf, Originates, IsPermitted, IsPreferred}
 use Rattle.ranked_policy.specs.Tests.{rule_for}
+use Rattle.ranked_policy.specs.Ways.{HasWay}
 use Rattle.stable_paths.specs.Stable.{Problem}
 use Rattle.dispute_wheels.specs.Feasible.{IsFeasible}
 use Rattle.wheel_search.specs.declared.row.Kind.{Kind}
@@ -119,6 +121,10 @@ abbrev pub RestStands : Problem → List Row → List ℕ → Type 0
 RestStands p rows path =
     (u v : ℕ) (rest : List ℕ) → path ≡ u ∷ v ∷ rest → IsFeasible p.net p.prefix (v ∷ rest)
     → (next : ℕ) → next < length rows → router_at rows next ≡ v → Contains (paths_at rows next) (v ∷ rest)
+
+-- these links lead from a router to its peers
+abbrev pub AreLinksOf : Problem → ℕ → List Link → Type 0
+AreLinksOf p u links = (v : ℕ) → (HasWay links u v ↔ Linked p.net.links u v)
 
 -- a path goes on from the router of a row over a link, by the path at a place of another row
 pub record GoesOn (p : Problem) (rows : List Row) (router : ℕ) (path : List ℕ) (next at : ℕ) : Type 0 where

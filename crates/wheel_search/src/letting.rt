@@ -1,6 +1,6 @@
 //! Letting go: a path goes once the better ones of its row and its rest went.
 
-ghost use Rattle.std.specs.Prelude.{◌≡◌, ◌<◌, ◌≤◌, ℕ, [], false, IfOk, MatchOption, length, slice_index, slice_index_or};
+ghost use Rattle.std.specs.Prelude.{◌≡◌, ◌<◌, ◌≤◌, ℕ, [], true, false, IfOk, IsTrue, MatchOption, length, slice_index, slice_index_or};
 ghost use Rattle.wheel_search.specs.Waits.{wait_of, Comes, AreWithin, AllFree};
 ghost use Rattle.wheel_search.specs.Letting.{AreGone, MayGo, HasGone, IsHeld, IsCircle};
 ghost use Rattle.wheel_search.specs.declared.wait.Wait.TheVariants.{Rest};
@@ -20,19 +20,28 @@ pub(crate) struct Letting {
     pub(crate) trail: Vec<usize>,
 }
 
-// The place of a path's rest, if the path is feasible and the rest did not go yet.
+// Whether a path may be feasible: it is looked at if that is asked for.
+fn may_come(waits: &[NetItems<Wait>], row: usize, place: usize, asks: bool) -> bool
+    ensures sure { asks ≡ true → IsTrue result → Comes waits.now row place }
+    ensures all { Comes waits.now row place → IsTrue result }
+{
+    if asks { comes(waits, row, place) } else { true }
+}
+
+// The place of a path's rest, if the path may be feasible and the rest did not go yet.
 fn held_by(
     waits: &[NetItems<Wait>],
     gone: &[usize],
     row: usize,
     place: usize,
+    asks: bool,
 ) -> Option<(usize, usize)>
     requires within { AreWithin waits.now }
     requires size { length gone.now ≡ length waits.now }
     ensures { MatchOption result
         (Comes waits.now row place → (next at : ℕ) → wait_of waits.now row place ≡ Rest next at
         → at < slice_index gone.now next)
-        (λ held. (wait_of waits.now row place ≡ Rest held.0 held.1) × Comes waits.now row place
+        (λ held. (wait_of waits.now row place ≡ Rest held.0 held.1) × (asks ≡ true → Comes waits.now row place)
         × (slice_index gone.now held.0 ≤ held.1)) }
 {
     match wait_at(waits, row, place) {
@@ -40,7 +49,7 @@ fn held_by(
             row: next,
             place: at,
         } => {
-            if gone[next] <= at && comes(waits, row, place) {
+            if gone[next] <= at && may_come(waits, row, place, asks) {
                 Some((next, at))
             } else {
                 None
@@ -50,26 +59,28 @@ fn held_by(
     }
 }
 
-// Lets the paths of a row go up to a place. `Some` is a row of the trail that holds the last one of the trail.
+// Lets the paths of a row go up to a place. `Some` is a row of the trail that holds the last one of the trail, by a
+// feasible path if it is asked whether paths are.
 fn let_go(
     waits: &[NetItems<Wait>],
     letting: &mut Letting,
     row: usize,
     last: usize,
+    asks: bool,
 ) -> Result<Option<usize>, AllocError>
     requires within { AreWithin waits.now }
     requires may { MayGo waits.now letting.old row last }
     ensures { IfOk result (λ closes. MatchOption closes (HasGone waits.now letting.old letting.new row last)
-        (IsHeld waits.now letting.old letting.new row last)) }
+        (λ by. asks ≡ true → IsHeld waits.now letting.old letting.new row last by)) }
 {
     letting.busy[row] = true;
     letting.trail.push(row)?;
     for place in letting.gone[row]..last + 1 {
-        if let Some((next, at)) = held_by(waits, letting.gone.as_slice(), row, place) {
+        if let Some((next, at)) = held_by(waits, letting.gone.as_slice(), row, place, asks) {
             if letting.busy[next] {
                 return Ok(Some(next));
             }
-            if let Some(closes) = let_go(waits, letting, next, at)? {
+            if let Some(closes) = let_go(waits, letting, next, at, asks)? {
                 return Ok(Some(closes));
             }
         }
@@ -101,7 +112,32 @@ fn none_gone(alloc: Global, waits: &[NetItems<Wait>]) -> Result<Letting, AllocEr
     })
 }
 
+// Lets all paths go. `Some` has the rows that hold one another in a circle, by feasible paths if it is asked whether paths
+// are, and how far all went.
+fn let_rows_go(
+    alloc: Global,
+    waits: &[NetItems<Wait>],
+    asks: bool,
+) -> Result<Option<(Letting, usize)>, AllocError>
+    requires { AreWithin waits.now }
+    ensures { IfOk result (λ found. MatchOption found (AllFree waits.now)
+        (λ held. asks ≡ true → IsCircle waits.now held.0 held.1)) }
+{
+    let mut letting = none_gone(alloc, waits)?;
+    for (row, of_row) in waits.iter().enumerate() {
+        let count = of_row.len();
+        if letting.gone[row] < count {
+            if let Some(closes) = let_go(waits, &mut letting, row, count - 1, asks)? {
+                return Ok(Some((letting, closes)));
+            }
+        }
+    }
+    Ok(None)
+}
+
 /// Lets all paths go. `Some` has the rows that hold one another in a circle, and how far all went.
+///
+/// It is first tried without a look at whether paths are feasible: where all go so, they go.
 pub(crate) fn let_all_go(
     alloc: Global,
     waits: &[NetItems<Wait>],
@@ -110,14 +146,8 @@ pub(crate) fn let_all_go(
     ensures { IfOk result (λ found. MatchOption found (AllFree waits.now)
         (λ held. IsCircle waits.now held.0 held.1)) }
 {
-    let mut letting = none_gone(alloc, waits)?;
-    for (row, of_row) in waits.iter().enumerate() {
-        let count = of_row.len();
-        if letting.gone[row] < count {
-            if let Some(closes) = let_go(waits, &mut letting, row, count - 1)? {
-                return Ok(Some((letting, closes)));
-            }
-        }
+    if let None = let_rows_go(alloc, waits, false)? {
+        return Ok(None);
     }
-    Ok(None)
+    let_rows_go(alloc, waits, true)
 }

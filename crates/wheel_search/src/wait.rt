@@ -3,12 +3,13 @@
 ghost use Rattle.std.specs.Prelude.{◌≡◌, ◌↔◌, ◌+◌, ◌^◌, ◌<◌, ◌∷◌, [], ℕ, List, IfOk, IsTrue, MatchOption, length, slice_index_or};
 ghost use Rattle.std.specs.List.{All, Contains};
 ghost use Rattle.ranked_policy.specs.Paths.{BeginsWith};
-ghost use Rattle.wheel_search.specs.Rows.{AreRows, IsRow, IsWait, IsEachWait, AreWaits, RestStands, paths_of};
+ghost use Rattle.ranked_policy.specs.Ways.{HasWay};
+ghost use Rattle.wheel_search.specs.Rows.{AreLinksOf, AreRows, IsRow, IsWait, IsEachWait, AreWaits, RestStands, paths_of};
 ghost use Rattle.wheel_search.specs.Waits.{wait_of, Comes};
 
 use crate::row::{Kind, Row};
 use ranked_policy::laws::each_policy_is_an_order;
-use ranked_policy::{Asn, LONGEST_PATH, NetItems, Path, is_onward};
+use ranked_policy::{Asn, LONGEST_PATH, Link, NetItems, Path, is_onward};
 use stable_paths::Instance;
 use std::alloc::{AllocError, Global};
 
@@ -42,9 +43,29 @@ fn place_of_rest(paths: &[Path], router: Asn, path: &[Asn]) -> Option<usize>
     None
 }
 
-// What a path of a row waits for that goes on over a peer.
-fn wait_over(instance: &Instance, rows: &[Row], row: &Row, peer: Asn, path: &[Asn]) -> Wait
+// Whether one of these links leads from a router to another.
+fn leads_to(links: &[Link], router: Asn, peer: Asn) -> bool
+    ensures { IsTrue result ↔ HasWay links.now router peer }
+{
+    for link in links {
+        if link.other == peer && link.one == router {
+            return true;
+        }
+    }
+    false
+}
+
+// What a path of a row waits for that goes on over a peer; the links are those of the row's router.
+fn wait_over(
+    instance: &Instance,
+    rows: &[Row],
+    links: &[Link],
+    row: &Row,
+    peer: Asn,
+    path: &[Asn],
+) -> Wait
     requires rows { AreRows instance.now rows.now }
+    requires links { AreLinksOf instance.now row.now.seat.router links.now }
     requires over { (rest : List ℕ) × (path.now ≡ row.now.seat.router ∷ peer ∷ rest) }
     requires stands { RestStands instance.now rows.now path.now }
     ensures { IsWait instance.now rows.now row.now path.now result }
@@ -58,16 +79,17 @@ fn wait_over(instance: &Instance, rows: &[Row], row: &Row, peer: Asn, path: &[As
     let Some(place) = place_of_rest(rows[next].paths(), router, path) else {
         return Wait::Never;
     };
-    if network.linked(router, peer) {
+    if leads_to(links, router, peer) {
         Wait::Rest { row: next, place }
     } else {
         Wait::Never
     }
 }
 
-// What a path of a row waits for.
-fn wait_for(instance: &Instance, rows: &[Row], row: &Row, path: &[Asn]) -> Wait
+// What a path of a row waits for; the links are those of the row's router.
+fn wait_for(instance: &Instance, rows: &[Row], links: &[Link], row: &Row, path: &[Asn]) -> Wait
     requires rows { AreRows instance.now rows.now }
+    requires links { AreLinksOf instance.now row.now.seat.router links.now }
     requires row { IsRow instance.now row.now }
     requires begins { BeginsWith path.now row.now.seat.router }
     requires stands { RestStands instance.now rows.now path.now }
@@ -76,12 +98,34 @@ fn wait_for(instance: &Instance, rows: &[Row], row: &Row, path: &[Asn]) -> Wait
     each_policy_is_an_order();
     let _network = instance.network();
     match path {
-        [_first, peer, ..] => wait_over(instance, rows, row, *peer, path),
+        [_first, peer, ..] => wait_over(instance, rows, links, row, *peer, path),
         _ => match row.seat.kind {
             Kind::Origin => Wait::Nothing,
             Kind::Ranked(_) | Kind::Free => Wait::Never,
         },
     }
+}
+
+// What the paths of a row wait for; the links are those of the row's router.
+fn waits_by(
+    alloc: Global,
+    instance: &Instance,
+    rows: &[Row],
+    links: &[Link],
+    row: &Row,
+) -> Result<NetItems<Wait>, AllocError>
+    requires rows { AreRows instance.now rows.now }
+    requires links { AreLinksOf instance.now row.now.seat.router links.now }
+    requires row { IsRow instance.now row.now }
+    requires stand { All (RestStands instance.now rows.now) (paths_of row.now) }
+    ensures { IfOk result (λ waits. IsEachWait instance.now rows.now row.now waits) }
+{
+    let paths = row.paths();
+    let mut waits = Vec::with_capacity(alloc, paths.len())?;
+    for path in paths {
+        waits.push(wait_for(instance, rows, links, row, path.as_slice()))?;
+    }
+    Ok(NetItems::from_vec(waits))
 }
 
 // What the paths of a row wait for.
@@ -96,12 +140,9 @@ fn waits_of(
     requires stand { All (RestStands instance.now rows.now) (paths_of row.now) }
     ensures { IfOk result (λ waits. IsEachWait instance.now rows.now row.now waits) }
 {
-    let paths = row.paths();
-    let mut waits = Vec::with_capacity(alloc, paths.len())?;
-    for path in paths {
-        waits.push(wait_for(instance, rows, row, path.as_slice()))?;
-    }
-    Ok(NetItems::from_vec(waits))
+    let network = instance.network();
+    let links = network.links_of(row.seat.router);
+    waits_by(alloc, instance, rows, links, row)
 }
 
 /// What the paths of each row wait for.

@@ -1,4 +1,4 @@
-use Rattle.std.proofs.Common.{◌≡◌, ◌<◌, ◌≤◌, ◌∙◌, ◌+◌, ℕ, false, set, List, length, length-append, [], ◌∷◌, refl, sym, ap, subst, arith}
+use Rattle.std.proofs.Common.{◌≡◌, ◌<◌, ◌≤◌, ◌∙◌, ◌+◌, ℕ, true, false, set, List, length, length-append, [], ◌∷◌, refl, sym, ap, subst, arith}
 use Rattle.std.specs.Prelude.{slice_index}
 use Rattle.wheel_search.specs.declared.letting.Letting.{Letting}
 use Rattle.std.specs.Vec.{with_item}
@@ -12,8 +12,8 @@ returns-then-index t c =
     let on = c.loop-place.invariant in
     let held = c.in-Some.ensures in
     let behind = subst (λ (xs : List ℕ). slice_index xs c.in-Some.next ≤ c.in-Some.at) c.as_slice.ensures.value held.2 in
-    closes_here c.args.waits.now c.args.letting.now c.args.row c.args.last c.requires.may c.loop-place.letting.gone.items c.loop-place.letting.busy.items c.loop-place.letting.trail.items
-    c.loop-place.place on (omega (arith, c.loop-place-test.true)) c.in-Some.next c.in-Some.at held.0 held.1 c.loop-place.letting refl refl behind (busy_read c.args.waits.now c.args.letting.now c.args.row c.args.last c.requires.may c.loop-place.letting.gone.items c.loop-place.letting.busy.items c.loop-place.letting.trail.items
+    λ asks. closes_here c.args.waits.now c.args.letting.now c.args.row c.args.last c.requires.may c.loop-place.letting.gone.items c.loop-place.letting.busy.items c.loop-place.letting.trail.items
+    c.loop-place.place on (omega (arith, c.loop-place-test.true)) c.in-Some.next c.in-Some.at held.0 (held.1 asks) c.loop-place.letting refl refl behind (busy_read c.args.waits.now c.args.letting.now c.args.row c.args.last c.requires.may c.loop-place.letting.gone.items c.loop-place.letting.busy.items c.loop-place.letting.trail.items
     c.loop-place.place on (omega (arith, c.loop-place-test.true)) c.in-Some.next c.in-Some.at held.0 c.requires.within c.index.result.now c.index.ensures c.if-index.true)
 
 pub let_go-requires : goal.let_go-requires
@@ -33,9 +33,9 @@ pub returns-in-Some-2 : goal.returns-in-Some-2
 returns-in-Some-2 t c =
     let on = c.loop-place.invariant in
     let held = c.in-Some.ensures in
-    let is : IsHeld c.args.waits.now c.loop-place.letting c.let_go.new.letting c.in-Some.next c.in-Some.at c.in-Some-2.closes = rw c.in-Some-2.is at c.in_ok-closes.ensures in
-    held_on c.args.waits.now c.args.letting.now c.args.row c.args.last c.requires.may c.loop-place.letting.gone.items c.loop-place.letting.busy.items c.loop-place.letting.trail.items
-    c.loop-place.place on (omega (arith, c.loop-place-test.true)) c.in-Some.next c.in-Some.at held.0 held.1 c.loop-place.letting c.let_go.new.letting refl refl refl c.in-Some-2.closes is
+    let is : c.args.asks ≡ true → IsHeld c.args.waits.now c.loop-place.letting c.let_go.new.letting c.in-Some.next c.in-Some.at c.in-Some-2.closes = rw c.in-Some-2.is at c.in_ok-closes.ensures in
+    λ asks. held_on c.args.waits.now c.args.letting.now c.args.row c.args.last c.requires.may c.loop-place.letting.gone.items c.loop-place.letting.busy.items c.loop-place.letting.trail.items
+    c.loop-place.place on (omega (arith, c.loop-place-test.true)) c.in-Some.next c.in-Some.at held.0 (held.1 asks) c.loop-place.letting c.let_go.new.letting refl refl refl c.in-Some-2.closes (is asks)
 
 pub loop-place-preserved : goal.loop-place-preserved
 loop-place-preserved t c =

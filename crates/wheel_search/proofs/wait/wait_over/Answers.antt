@@ -1,6 +1,6 @@
 use Rattle.std.proofs.Common.{◌≡◌, ◌∙◌, ◌<◌, length, sym, ap, subst}
 use Rattle.std.specs.List.{HoldsAt}
-use Rattle.ranked_policy.specs.Plans.{Plan, IsRouter, Linked}
+use Rattle.ranked_policy.specs.Plans.{Plan, IsRouter}
 use Rattle.wheel_search.specs.Rows.{paths_of, paths_at}
 use Rattle.wheel_search.proofs.GraphLemmas.{not_known, not_listed, not_linked, goes_on, router_found, paths_here}
 use Rattle.wheel_search.proofs.wait.wait_over.Goals as goal
@@ -25,8 +25,8 @@ returns-in_default-place_of_rest c =
     not_listed law p net.problem.problem rows c.requires.rows c.args.row.now.seat.router c.args.peer next c.requires.over.0 c.args.path.now c.requires.over.1 found.0 found.1 c.paths.result.now paths
     c.requires.stands c.in_default-place_of_rest.ensures
 
-pub returns-then-linked : goal.returns-then-linked
-returns-then-linked c =
+pub returns-then-leads_to : goal.returns-then-leads_to
+returns-then-leads_to c =
     let net = c.network-network.ensures in
     let law = c.each_policy_is_an_order.ensures in
     let p = c.args.instance.now in
@@ -38,10 +38,10 @@ returns-then-linked c =
     c.paths.ensures ∙ ap paths_of c.index-rows-next.is ∙ sym (paths_here law p net.problem.problem rows c.requires.rows next c.index-rows-next.result found.0) in
     let at = c.in-Some-place_of_rest.ensures in
     goes_on law p net.problem.problem rows c.requires.rows c.args.row.now.seat.router c.args.peer next c.in-Some-place_of_rest.place c.args.path.now found.0 found.1 c.paths.result.now paths at.0 at.1 at.2
-    (subst (λ (n : Plan). Linked n.links c.args.row.now.seat.router c.args.peer) net.value (c.linked.ensures.0 c.if-linked.true))
+    ((c.requires.links c.args.peer).0 (c.leads_to.ensures.0 c.if-leads_to.true))
 
-pub returns-else-linked : goal.returns-else-linked
-returns-else-linked c =
+pub returns-else-leads_to : goal.returns-else-leads_to
+returns-else-leads_to c =
     let net = c.network-network.ensures in
     not_linked c.each_policy_is_an_order.ensures c.args.instance.now net.problem.problem c.args.rows.now c.requires.rows c.args.row.now.seat.router c.args.peer c.requires.over.0 c.args.path.now c.requires.over.1
-    (λ linked. absurd (cc (c.if-linked.false, c.linked.ensures.1 (subst (λ (n : Plan). Linked n.links c.args.row.now.seat.router c.args.peer) (sym net.value) linked))))
+    (λ linked. absurd (cc (c.if-leads_to.false, c.leads_to.ensures.1 ((c.requires.links c.args.peer).1 linked))))

@@ -3,7 +3,7 @@ use Rattle.std.proofs.Common.{◌≡◌, ◌<◌, ℕ, [], false, length}
 use Rattle.std.specs.Prelude.{slice_index, slice_index_or}
 use Rattle.wheel_search.specs.Waits.{count_of}
 use Rattle.wheel_search.specs.Letting.{AreGone}
-use Rattle.wheel_search.proofs.letting.let_all_go.Given as goal
+use Rattle.wheel_search.proofs.letting.let_rows_go.Given as goal
 
 abbrev pub invariant-loop-row : goal.invariant-loop-row
 invariant-loop-row l = record {
