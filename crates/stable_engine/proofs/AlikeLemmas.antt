@@ -119,7 +119,7 @@ every_to net q r policies every h =
           (λ both. same.1 (both.0, together_to net r q (turned net q r policies) (get_or every.parts k d).routers paths both.1)),
         ));
         unmoved = λ u v disputes trails linked t of own path theirs mine his. (let policy = policies u t of in
-          fits_to t q r policy v path theirs
+            fits_to t q r policy v path theirs
             (h.among.unmoved u v disputes trails linked t of (λ o. own ((policy.originates t.router).0 o)) path theirs mine his));
       };
     }
