@@ -1,9 +1,12 @@
 """Reads the configuration of a router line by line, as FRR obeys it."""
+from itertools import count
+
 from bgpnet.configs.bgp_lines import BgpLines
 from bgpnet.configs.igp_lines import IgpLines
 from bgpnet.configs.places import Place, refusal
 from bgpnet.configs.policy_lines import PolicyLines
 from bgpnet.configs.router import Line
+from bgpnet.network import distances
 
 MOST_CALLS = 10
 
@@ -12,16 +15,23 @@ class Reader(BgpLines, PolicyLines, IgpLines):
     """Obeys all lines of one file."""
 
 
-def check_calls(router, name):
-    """Refuses a route-map whose calls go in a circle, or too deep."""
-    def depth(name, above):
-        if name in above:
-            raise refusal(router.maps[name].place, f"route-map {name} is called by a map that it calls")
-        calls = [entry.call for entry in router.maps[name].ordered() if entry.call and entry.call.name in router.maps]
-        return max((1 + depth(call.name, above + [name]) for call in calls), default=0)
-
-    if depth(name, []) > MOST_CALLS:
-        raise refusal(router.maps[name].place, f"route-map {name}: more than {MOST_CALLS} calls in one another")
+def wrong_calls(router):
+    """Why route-maps are refused whose calls go in a circle, or too deep."""
+    calls = {name: {entry.call.name for entry in one.ordered() if entry.call}.intersection(router.maps)
+             for name, one in router.maps.items()}
+    endless, deep = set(calls), set()
+    for depth in count(1):  # `longer` are the maps at which a chain of so many calls begins
+        longer = {name for name in endless if calls[name] & endless}
+        if depth == MOST_CALLS + 1:
+            deep = longer
+        if len(longer) == len(endless):
+            break
+        endless = longer
+    for name in endless:
+        if any(name in calls[other] for other in distances(calls, name)):
+            yield refusal(router.maps[name].place, f"route-map {name} is called by a map that it calls")
+    for name in deep - endless:
+        yield refusal(router.maps[name].place, f"route-map {name}: more than {MOST_CALLS} calls in one another")
 
 
 def check_detection(router, neighbor):
@@ -115,8 +125,8 @@ def obey(text, name):
             router.warn(network.place, "network: taken as announced; with import-check FRR announces it where the "
                                        "route is in its table")
             break
-    for name in router.maps:
-        reasons.attempt(check_calls, router, name)
+    for why in wrong_calls(router):
+        reasons.add(why)
     for neighbor in router.all_neighbors():
         reasons.attempt(check_detection, router, neighbor)
     undefined(router)
