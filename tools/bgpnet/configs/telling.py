@@ -14,7 +14,7 @@ from bgpnet.configs.routes import ORIGINS, Denial
 from bgpnet.configs.sessions import dotted
 from bgpnet.configs.showing import ending, inside_attributes, path_words, reported, with_steps
 from bgpnet.configs.syntax import number_of, prefix_of
-from bgpnet.network import MOST_PATHS, Named, Prefix, lines_text, path_text, routes_of, telling, words_of
+from bgpnet.network import MOST_PATHS, Named, Prefix, lines_text, routes_of, telling, words_of
 from bgpnet.program import Refusal, grouped
 from bgpnet.reports import is_json, read_report
 
@@ -232,7 +232,7 @@ def tie_ends(program, ranks, prefix, most=None):
         chosen = {asn: routes[asn, prefix] for asn in orders}
         if all(tie.allows(one) for (_, tie), one in zip(places, order)) or \
                 is_settled and all(judge.may_keep(asn, path, chosen) for asn, path in chosen.items()):
-            key = " ".join(["settled" if is_settled else "moving", *map(path_text, chosen.values())])
+            key = " ".join(["settled" if is_settled else "moving", *map(ranks.set.path_text, chosen.values())])
             ends[key] = ends.get(key, 0) + 1
     yield f"  ties: {len(places)}, orders played: {sum(ends.values())}{', and there are more' * are_more}"
     for said, count in sorted(ends.items(), key=lambda end: -end[1]):
@@ -246,7 +246,7 @@ def all_tie_ends(program, ranks, most=None):
         key = id(ranks.orders[prefix])
         if key not in known:
             known[key] = list(tie_ends(program, ranks, prefix, most))
-        yield f"prefix {prefix} of {origin}"
+        yield f"prefix {prefix} of {ranks.set.name_of(origin)}"
         yield from known[key]
 
 
