@@ -56,7 +56,7 @@ class IgpLines(Blocks):
     def do_default_route(self, words, line):
         """`ip nht resolve-via-default`: a next hop may be reached by the default route."""
         self.router.foreign.add(self.place.line)
-        self.router.igp.resolves_by_default = words[0] != "no"
+        self.router.igp.resolves_by_default = self.is_set
 
     def unread(self, line):
         self.router.igp.unread.append((self.place, line))
