@@ -4,8 +4,8 @@ from __future__ import annotations
 import functools
 import itertools
 import re
-from dataclasses import dataclass, field, replace
-from typing import Any, Callable, Iterator, Mapping, Sequence, Tuple
+from dataclasses import asdict, dataclass, field, replace
+from typing import Any, Callable, Iterable, Iterator, Mapping, Sequence, Tuple
 
 from bgpnet.network import Path, Prefix, RouteDict, path_text, read_path, routes_of
 from bgpnet.tracing import Kind, counts_of, rows_of
@@ -365,6 +365,11 @@ def routes_json(routes: Mapping[Tuple[int, Prefix], Path]) -> list[Json]:
             for (router, prefix), path in routes.items()]
 
 
+def changes_json(changes: Iterable[Tuple[int, Path, Path]]) -> list[Json]:
+    """Routers whose path is another, each with the old one and the new one."""
+    return [{"router": router, "from": path_text(old), "to": path_text(new)} for router, old, new in changes]
+
+
 def snapshot_json(one: Snapshot) -> Json:
     found: dict[str, Any] = {"snapshot": one.number, "verdict": one.verdict}
     if one.verdict == "moving":
@@ -419,9 +424,7 @@ def cut_json(lines: Sequence[str]) -> Json:
 
 def why_json(lines: Sequence[str]) -> Json:
     found = read_why(lines)
-    return {"router": found.router,
-            "peers": [{"peer": one.peer, "state": one.state, "incarnation": one.incarnation, "outbox": one.outbox,
-                       "on_its_way": one.on_its_way, "timers": dict(one.timers)} for one in found.sessions],
+    return {"router": found.router, "peers": list(map(asdict, found.sessions)),
             "prefixes": [{"prefix": str(one.prefix), "keeps": path_text(one.keeps), "originated": one.originated,
                           "from": list(map(heard_json, one.heard)), "told": list(one.told)} for one in found.prefixes]}
 

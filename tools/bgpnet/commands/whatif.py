@@ -29,11 +29,11 @@ import json
 import sys
 
 from bgpnet import jobs
-from bgpnet.answers import routes_json
+from bgpnet.answers import changes_json, routes_json
 from bgpnet.becoming import Change, check_alike
 from bgpnet.failures import Failure, Player, alike_key, seen_in
 from bgpnet.leftover import ends_left, is_safe, start_in
-from bgpnet.network import network_asked, path_text, read_link, read_network, read_router
+from bgpnet.network import network_asked, read_link, read_network, read_router
 from bgpnet.playing import state_behind
 from bgpnet.program import Refusal, Words, count, grouped, read_text, tool
 from bgpnet.reports import read_report
@@ -111,8 +111,7 @@ def state_object(state, seen):
                      for routes, seeds in state.others.ends.items()]},
         "prefixes": [{
             "prefix": str(prefix), "origin": one.origin, "updates": one.updates,
-            "changed": [{"router": router, "from": path_text(old), "to": path_text(new)}
-                        for router, old, new in one.changed],
+            "changed": changes_json(one.changed),
             "without": one.without, "cut_off": one.cut_off, "lost": one.lost,
             "not_as_before": [router for router, _, _ in one.other], "check": one.said[0], "stable": one.said[1],
         } for prefix, one in seen.items()]}
