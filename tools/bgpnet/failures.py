@@ -7,7 +7,7 @@ from dataclasses import dataclass
 from typing import Collection, List, Mapping, Sequence, Tuple
 
 from bgpnet.answers import read_play
-from bgpnet.network import Ends, Link, Network, Path, Prefix, lines_text, originations, starts
+from bgpnet.network import Ends, Link, Network, Path, Prefix, at_both_ends, lines_text, originations, starts
 from bgpnet.orders import at_random, race_of
 from bgpnet.playing import Said, judgements, reached
 from bgpnet.program import Program, Refusal
@@ -51,13 +51,12 @@ class Failure:
             return [f"restart {self.crash}"]
         if self.silence:
             return self.silence
-        return [f"stop {end} {other}" for link in self.links for end, other in (link, link[::-1])]
+        return at_both_ends("stop", self.links)
 
     def orders_back(self) -> list[str]:
         """The orders by which it comes back."""
-        lines = [f"start {end} {other}" for link in self.links for end, other in (link, link[::-1])]
-        return lines + [f"originate {router} {prefix}" for prefix, router in self.network.origins.items()
-                        if router == self.crash]
+        return at_both_ends("start", self.links) + [
+            f"originate {router} {prefix}" for prefix, router in self.network.origins.items() if router == self.crash]
 
 
 def silence(network: Network, silent: Link) -> list[str]:
