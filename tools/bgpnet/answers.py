@@ -8,6 +8,7 @@ from dataclasses import asdict, dataclass, field, replace
 from typing import Any, Callable, Iterable, Iterator, Mapping, Sequence, Tuple
 
 from bgpnet.network import Path, Prefix, RouteDict, path_text, read_path, routes_of
+from bgpnet.program import Program
 from bgpnet.tracing import Kind, counts_of, rows_of
 
 Json = Mapping[str, Any]
@@ -100,6 +101,11 @@ def snapshot_of(line: str, routes: Sequence[str]) -> Snapshot:
 def read_play(lines: Sequence[str]) -> Played:
     *snapshots, (_, *now) = parted(lines, ("snapshot", "now"))
     return Played(tuple(snapshot_of(line, routes) for line, *routes in snapshots), Routes(routes_of(now)))
+
+
+def routes_behind(program: Program, text: str, name: str) -> Routes:
+    """The routes at the end of a text's schedule; a refusal names the line of the file `name`."""
+    return read_play(program.answer(["play"], text, name)).routes
 
 
 def read_run(lines: Sequence[str]) -> Settled:

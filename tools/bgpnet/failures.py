@@ -6,7 +6,7 @@ import dataclasses
 from dataclasses import dataclass
 from typing import Collection, List, Mapping, Sequence, Tuple
 
-from bgpnet.answers import read_play
+from bgpnet.answers import routes_behind
 from bgpnet.network import Ends, Link, Network, Path, Prefix, at_both_ends, lines_text, originations, starts
 from bgpnet.orders import at_random, race_of
 from bgpnet.playing import Said, judgements, reached
@@ -160,9 +160,9 @@ class Player:
         states = []
         for at, place in enumerate(self.schedule(stages)[1]):
             if at or not failures:
-                said = self.program.answer(["play"], self.text(stages[:at]), "the schedule")
                 failure = failures[at - 1][1] if at else None
-                state = StateBehind(read_play(said).routes, seen[place], failure)
+                routes = routes_behind(self.program, self.text(stages[:at]), "the schedule")
+                state = StateBehind(routes, seen[place], failure)
                 if state.stage.rest is None:
                     again = self.again(stages[:at], state.without, bool(failure and failure.silence))
                     state = dataclasses.replace(state, again=again, others=self.others(stages[:at]))
@@ -179,8 +179,7 @@ class Player:
             if stages_of(self.program.trace(text, "the schedule"))[place].rest is None:
                 restless += 1
                 continue
-            said = self.program.answer(["play"], text, "the schedule")
-            ends.setdefault(tuple(read_play(said).routes.items()), []).append(seed)
+            ends.setdefault(tuple(routes_behind(self.program, text, "the schedule").items()), []).append(seed)
         return Others(ends, restless)
 
     def again(self, stages: Sequence[Titled], closed: Collection[Ends], silent: bool) -> Again | None:

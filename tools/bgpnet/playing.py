@@ -10,7 +10,7 @@ from bgpnet.answers import read_check, read_check_all, snapshot_of
 from bgpnet.network import (Ends, Network, Path, Prefix, RouteDict, lines_text, parts_of, path_text, read_number,
                             read_path, routes_of, words_of)
 from bgpnet.program import Program, Refusal, Refused
-from bgpnet.tracing import Moment, events_of, orders_of
+from bgpnet.tracing import Moment, events_of, orders_of, rest_bound
 
 # The path of each router for one prefix; a router that would move, with its path and its best one; and a line of
 # `check` behind words, with whether it is stable.
@@ -55,6 +55,14 @@ def state_behind(program: Program, text: str, name: str) -> State:
     at = lines.index("now")
     snapshots = [line for line in lines[:at] if line.startswith("snapshot")]
     return State(routes_of(lines[at + 1:]), snapshots, moment.broken, moment.silent, moment.waiting)
+
+
+def check_all_up(program: Program, network: Network, text: str, name: str) -> None:
+    """Refuses a text behind whose schedule, when the network rests, a session is not up."""
+    broken = state_behind(program, f"{text}\nrounds {rest_bound(network)}\n", name).broken
+    if broken:
+        down = ", ".join(network.link_text(link) for link in network.links if frozenset(link) in broken)
+        raise Refusal(f"{name}: behind its schedule not every session is up: {down}")
 
 
 @dataclass(frozen=True)

@@ -179,7 +179,7 @@ class Program:
     def answer(self, words: Sequence[str], text: str, name: str) -> list[str]:
         """The lines that the program prints for a text that it takes; a refusal names the line of the file `name`."""
         status, lines, said = self.run(words, text)
-        if status:
+        if status == 1:
             raise refused(name, said)
         return lines
 

@@ -6,7 +6,7 @@ from dataclasses import asdict, dataclass
 from typing import Any, Dict, Iterable, Iterator, List, Mapping, NamedTuple, Sequence, Tuple, Union
 
 from bgpnet import jobs
-from bgpnet.answers import Rim, read_play
+from bgpnet.answers import Rim, read_play, routes_behind
 from bgpnet.live import GaveUp, is_without_rules, listed_paths, live_paths, shortest_paths
 from bgpnet.network import Link, Network, Path, Prefix, lines_text, originations, path_text, starts
 from bgpnet.orders import MOST_LINES, at_random, lock_step, race_of
@@ -223,8 +223,7 @@ class Timing:
         orders = shortest_orders(network, prefix)
         for end, order in (orders or {}).items():
             text = network.text + lines_text(["schedule", *schedule_of(network, prefix, order)])
-            said = program.answer(["play"], text, "an order")
-            routes = read_play(said).routes
+            routes = routes_behind(program, text, "an order")
             if all(routes[router, prefix] == path for router, path in end):
                 self.ends.append((end, order, text))
         self.words = [sentence(network, *pair) for pair in self.pairs()] if len(self.ends) == 2 else []
