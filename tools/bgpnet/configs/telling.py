@@ -14,7 +14,7 @@ from bgpnet.configs.routes import ORIGINS, Denial
 from bgpnet.configs.sessions import dotted
 from bgpnet.configs.showing import ending, inside_attributes, path_words, reported, with_steps
 from bgpnet.configs.syntax import number_of, prefix_of
-from bgpnet.network import MOST_PATHS, Named, Prefix, lines_text, routes_of, telling, words_of
+from bgpnet.network import MOST_PATHS, Named, Prefix, lines_text, numbered, read_path, routes_of, telling
 from bgpnet.program import Refusal, grouped
 from bgpnet.reports import is_json, read_report
 
@@ -116,37 +116,31 @@ def play(program, ranks, most=None):
 def read_routes(routers, text, name):
     """The paths of `route` and `path` lines, as `play` prints them, by router and prefix; refuses what is none of them,
     and what is not of these configurations. What FRR prints as JSON is taken too."""
+    origins, found = routers.origins(), {}
     if is_json(text):
-        found = read_report(text, name) if next(iter(routers.routers.values())).reach is None else \
-            reported(routers, text, name)
-        return known_routes(routers, found, name)
-    lines, origins = list(enumerate(text.split("\n"), 1)), routers.origins()
-    lines = [(Place(name, number), words_of(line)) for number, line in lines]
-    for place, words in lines:
-        if words[:1] in (["route"], ["path"]):
-            if len(words) != 4 or None in (number_of(words[1]), prefix_of(words[2]), PATH.fullmatch(words[3])):
-                raise refusal(place, f"'{' '.join(words)}' is no line 'route ROUTER PREFIX PATH'")
-            if int(words[1]) not in routers.routers:
-                raise refusal(place, f"these configurations have no router {words[1]}")
-            if Prefix.read(words[2]) not in origins:
-                raise refusal(place, f"no router announces {words[2]}")
-    found = routes_of([" ".join(words) for _, words in lines])
+        is_inside = next(iter(routers.routers.values())).reach is not None
+        told = reported(routers, text, name) if is_inside else read_report(text, name)
+        rows = ((name, *route) for route in told.items())
+    else:
+        rows = (row for number, words in numbered(text.split("\n")) for row in rows_of(Place(name, number), words))
+    for place, (asn, said), path in rows:
+        prefix = Prefix.read(str(said))
+        if asn not in routers.routers:
+            raise refusal(place, f"these configurations have no router {asn}")
+        if prefix not in origins:
+            raise refusal(place, f"no router announces {said}")
+        found[asn, prefix] = path
     if not found:
-        raise Refusal(f"{name}: no routes, as `play` prints them")
+        raise Refusal(f"{name}: no routes" + ", as `play` prints them" * (not is_json(text)))
     return found
 
 
-def known_routes(routers, routes, name):
-    """The routes of a report, of routers and prefixes of these configurations; others are refused."""
-    origins = routers.origins()
-    for asn, prefix in routes:
-        if asn not in routers.routers:
-            raise Refusal(f"{name}: these configurations have no router {asn}")
-        if prefix not in origins:
-            raise Refusal(f"{name}: no router announces {prefix}")
-    if not routes:
-        raise Refusal(f"{name}: no routes")
-    return routes
+def rows_of(place, words):
+    """The route of a line of `play`, with its place, if it has one."""
+    if words[0] in ("route", "path"):
+        if len(words) != 4 or None in (number_of(words[1]), prefix_of(words[2]), PATH.fullmatch(words[3])):
+            raise refusal(place, f"'{' '.join(words)}' is no line 'route ROUTER PREFIX PATH'")
+        yield place, (int(words[1]), words[2]), read_path(words[3])
 
 
 def verify(routers, routes, chosen=None):
