@@ -177,23 +177,20 @@ def judgements(program: Program, network: Network, routes: Mapping[tuple[int, Pr
     return said
 
 
-def unstable_of(program: Program, network: Network, prefix: Prefix, chosen: Chosen, without: Collection[Ends],
-                judged: Judged | None) -> list[Move]:
-    """The routers that would move where a judgement is not stable, each with its path and its best one."""
-    return moves(program, network, prefix, chosen, without) if judged and judged.first else []
-
-
-def captions_of(network: Network, judged: Judged | None, unstable: Sequence[Move],
-                waiting: int) -> list[tuple[str, bool | None]]:
-    """What is said below a picture: the judgement, if there is one, who would move too, and how many UPDATEs are on
-    their way. Where some are, nothing is at its end, so that a stable judgement is no good news."""
+def judged_captions(program: Program, network: Network, prefix: Prefix, chosen: Chosen, without: Collection[Ends],
+                    waiting: int) -> tuple[list[Move], list[tuple[str, bool | None]]]:
+    """The routers that would move where the paths of a prefix are not stable; and what is said below a picture: the
+    judgement, if there is one, who would move too, and how many UPDATEs are on their way. Where some are, nothing is at
+    its end, so that a stable judgement is no good news."""
+    judged = judgement(program, network, prefix, chosen, without)
+    unstable = moves(program, network, prefix, chosen, without) if judged and judged.first else []
     on_the_way = f"{waiting} UPDATE{'s' * (waiting > 1)} on {'their' if waiting > 1 else 'its'} way"
     if not judged:
-        return [(on_the_way, None)] * bool(waiting)
+        return unstable, [(on_the_way, None)] * bool(waiting)
     is_good = None if judged.is_stable and waiting else judged.is_stable
     lines: list[tuple[str, bool | None]] = [(judged.text + f", and {on_the_way}" * bool(waiting), is_good)]
     others = ", ".join(network.name_of(router) for router, _, _ in unstable[1:])
-    return lines + [(f"would move too: {others}", False)] * bool(others)
+    return unstable, lines + [(f"would move too: {others}", False)] * bool(others)
 
 
 def verdict_text(network: Network, line: str) -> str:

@@ -124,8 +124,7 @@ class Draw(unittest.TestCase):
             prefix = next(iter(network.origins))
             routes = {router: self.some_path(network, prefix, router, draw) for router in network.routers}
             routes[network.origins[prefix]] = (network.origins[prefix],)
-            said = playing.judgement(asked_program(), network, prefix, routes)
-            found = playing.unstable_of(asked_program(), network, prefix, routes, (), said)
+            found, _ = playing.judged_captions(asked_program(), network, prefix, routes, (), 0)
             with self.subTest(seed=seed):
                 self.assertEqual({router: best for router, _, best in found}, movers(network, routes))
                 self.assertEqual({router: path for router, path, _ in found},
