@@ -6,6 +6,7 @@ the program, of a text, is `Refused`, with the line, the code and the sentence. 
 or started is an `OSError`."""
 from __future__ import annotations
 
+import importlib
 import pathlib
 from dataclasses import dataclass, field
 from typing import Any, Iterable, Mapping, Sequence, Tuple, Union
@@ -515,12 +516,11 @@ def read_configurations(paths: Iterable[str], bird: Iterable[str] = (), best: in
     """The network of routers' configurations, in the languages of FRR and BIRD, as tools/config reads them; the files
     of `bird` are of BIRD, whatever they hold. With `best` a router that has more paths than a rule may have keeps so
     many. Comments of the network call routers by their names."""
-    from bgpnet.configs import files, ranks  # loaded here alone: it takes some time
-    untyped: Any = files, ranks
-    of_files, of_ranks = untyped
+    # Loaded here alone, since it takes some time; and by their names, since they have no types.
+    files, ranks = (importlib.import_module(f"bgpnet.configs.{name}") for name in ("files", "ranks"))
     of_bird = list(bird)
-    routers = of_files.read_set({path: read_text(path) for path in [*paths, *of_bird]}, of_bird)
-    lines, _ = of_ranks.network_lines(of_ranks.Ranks(routers), best)
+    routers = files.read_set({path: read_text(path) for path in [*paths, *of_bird]}, of_bird)
+    lines, _ = ranks.network_lines(ranks.Ranks(routers), best)
     return Network(texts.lines_text(lines), "the configurations", program or default_program())
 
 
