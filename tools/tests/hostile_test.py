@@ -9,6 +9,9 @@ import unittest
 
 from support import TOP, program_path, run
 
+from bgpnet.configs.lab import obey
+from bgpnet.program import Refusal
+
 NETWORK = b"router 1 10.0.0.1\nrouter 2 10.0.0.2\nrouter 3 10.0.0.3\nlink 1 2\nlink 2 3\nlink 1 3\norigin 1 10.1.0.0/16\n"
 SCHEDULE = NETWORK + b"schedule\nstart 1 2\nstart 2 1\noriginate 1 10.1.0.0/16\nrounds 9\nsnapshot 1 1\nrounds 9\n"
 # Lines that a reader of its own may stumble over, which the program refuses or not.
@@ -209,6 +212,11 @@ class Hostile(unittest.TestCase):
                 other.write_bytes(text)
                 self.ends("handout", pathlib.Path(place, f"{at}.zip"), other)
                 self.ends("draw", "examples/disagree.txt", "--routes", other)
+            pathlib.Path(place, "igp.txt").write_bytes(b"\xff")
+            pathlib.Path(place, "a.conf").write_bytes(b"router bgp 1\n")
+            self.assertEqual(run("beside", place)[0], 1)
+        with self.assertRaises(Refusal):  # what the system refuses, such as a namespace
+            obey(["false"])
         self.ends("handout", "/nowhere/x.zip")
         self.ends("pictures", "--program", "/nowhere")
 
