@@ -223,7 +223,7 @@ class Hostile(unittest.TestCase):
     def test_sheets(self):
         with tempfile.TemporaryDirectory() as place:
             names = []
-            for at, text in enumerate(WHOLE):
+            for at, text in enumerate([*WHOLE, b"# words: why \0\n# answer: x\n" + NETWORK]):
                 names.append(str(pathlib.Path(place, f"{at}.txt")))
                 pathlib.Path(names[-1]).write_bytes(text)
             done = subprocess.run([sys.executable, TOP / "examples/try", *names, place, "/nowhere"], capture_output=True,
