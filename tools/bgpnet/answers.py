@@ -462,8 +462,7 @@ def counts_json(trace: Sequence[str]) -> Json:
     """How many events a run had, how many UPDATEs were told, and behind which round its last order of rounds rested."""
     rows = list(rows_of(trace))
     ended = [row for row in rows if row.is_of_rounds]
-    counts = counts_of(rows)
-    return {"events": counts.events, "updates": counts.updates, "rounds": ended[-1].rest if ended else None}
+    return {**asdict(counts_of(rows)), "rounds": ended[-1].rest if ended else None}
 
 
 def said_of(words: Sequence[str], lines: Sequence[str]) -> Json:

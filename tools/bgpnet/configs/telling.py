@@ -261,14 +261,6 @@ class Reordered:
 
 # ---- what a change does
 
-class Both(Named):
-    """What the routers of two sets are called."""
-
-    def __init__(self, old, new):
-        self.called = telling({asn: router.host for routers in (old, new) for asn, router in routers.routers.items()
-                               if router.host})
-
-
 class Change:
     """Two sets of configurations, and what is other in the second."""
 
@@ -278,7 +270,9 @@ class Change:
                 raise Refusal(f"no router announces {prefix}")
         self.sides = [Ranks(routers, [one for one in chosen if one in routers.origins()] if chosen else None, True)
                       for routers in (old, new)]
-        self.names, self.both = [Names([]), Names([])], Both(old, new)
+        self.names, self.both = [Names([]), Names([])], Named()
+        self.both.called = telling({asn: router.host for routers in (old, new)
+                                    for asn, router in routers.routers.items() if router.host})
         self.ends = [play(program, ranks, most) for ranks in self.sides]
 
     def lines(self):
