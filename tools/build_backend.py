@@ -32,6 +32,11 @@ def files_of(folder):
     return [path for path in sorted(folder.rglob("*")) if path.is_file() and "__pycache__" not in path.parts]
 
 
+def examples():
+    """The examples and sheets, without what is of the repository alone."""
+    return [path for path in files_of(TOP / "examples") if path.suffix not in (".md", ".pyc") and path.name != "try"]
+
+
 def name_of(said):
     return f"{said['name']}-{said['version']}"
 

@@ -4,10 +4,11 @@ from __future__ import annotations
 import functools
 import itertools
 import re
-from dataclasses import dataclass, field, replace
-from typing import Any, Callable, Iterator, Mapping, Sequence, Tuple
+from dataclasses import asdict, dataclass, field, replace
+from typing import Any, Callable, Iterable, Iterator, Mapping, Sequence, Tuple
 
 from bgpnet.network import Path, Prefix, RouteDict, path_text, read_path, routes_of
+from bgpnet.program import Program
 from bgpnet.tracing import Kind, counts_of, rows_of
 
 Json = Mapping[str, Any]
@@ -43,6 +44,17 @@ class Routes(Mapping[Tuple[int, Prefix], Path]):
 
 
 NO_ROUTES = Routes({})
+
+
+def parted(lines: Iterable[str], heads: Sequence[str]) -> list[list[str]]:
+    """Lines in parts that begin with a line of one of these first words; those above the first of them are in none."""
+    found: list[list[str]] = []
+    for line in lines:
+        if line.split()[0] in heads:
+            found.append([])
+        if found:
+            found[-1].append(line)
+    return found
 
 
 # ---- play, run
@@ -87,14 +99,13 @@ def snapshot_of(line: str, routes: Sequence[str]) -> Snapshot:
 
 
 def read_play(lines: Sequence[str]) -> Played:
-    parts: list[tuple[str, list[str]]] = []
-    for line in lines:
-        if line.startswith("route "):
-            parts[-1][1].append(line)
-        else:
-            parts.append((line, []))
-    snapshots = tuple(snapshot_of(line, routes) for line, routes in parts if line != "now")
-    return Played(snapshots, Routes(routes_of(next(routes for line, routes in parts if line == "now"))))
+    *snapshots, (_, *now) = parted(lines, ("snapshot", "now"))
+    return Played(tuple(snapshot_of(line, routes) for line, *routes in snapshots), Routes(routes_of(now)))
+
+
+def routes_behind(program: Program, text: str, name: str) -> Routes:
+    """The routes at the end of a text's schedule; a refusal names the line of the file `name`."""
+    return read_play(program.answer(["play"], text, name)).routes
 
 
 def read_run(lines: Sequence[str]) -> Settled:
@@ -189,19 +200,8 @@ def read_check(lines: Sequence[str]) -> Judgement:
 
 def read_check_all(lines: Sequence[str]) -> dict[Prefix, tuple[Judgement, ...]]:
     """What `check --all` says: of each prefix each router that would move, none where it is stable."""
-    return {Prefix.read(head[1]): tuple(read_check([" ".join(words)]) for words in rows)
-            for head, *rows in by_prefix(lines)}
-
-
-def by_prefix(lines: Sequence[str]) -> list[list[list[str]]]:
-    """The words of the lines of each prefix."""
-    found: list[list[list[str]]] = []
-    for words in map(str.split, lines):
-        if words[0] == "prefix":
-            found.append([words])
-        elif found:
-            found[-1].append(words)
-    return found
+    return {Prefix.read(head.split()[1]): tuple(read_check([line]) for line in rows)
+            for head, *rows in parted(lines, ("prefix",))}
 
 
 def counted(word: str) -> int | None:
@@ -209,35 +209,36 @@ def counted(word: str) -> int | None:
 
 
 def read_stable(lines: Sequence[str]) -> tuple[StablePrefix, ...]:
-    return tuple(stable_prefix(rows) for rows in by_prefix(lines))
+    return tuple(map(stable_prefix, parted(lines, ("prefix",))))
 
 
-def stable_prefix(rows: Sequence[list[str]]) -> StablePrefix:
-    head, prefix = rows[0], Prefix.read(rows[0][1])
+def stable_prefix(lines: Sequence[str]) -> StablePrefix:
+    head, *rows = map(str.split, lines)
+    prefix = Prefix.read(head[1])
     if head[2] == "unknown":
         return StablePrefix(prefix, None, {}, (), {}, head[3], tuple(map(int, head[4:])))
-    disputes: list[tuple[list[str], list[tuple[Path, ...]]]] = []
-    for words in rows[1:]:
-        if words[0] == "dispute":
-            disputes.append((words, []))
-        elif words[0] == "choice":
-            disputes[-1][1].append(tuple(map(read_path, words[1:])))
-    paths = {int(words[1]): read_path(words[3]) for words in rows if words[0] == "route"}
-    return StablePrefix(prefix, counted(head[3]), paths, tuple(
-        Dispute(int(words[4]), tuple(map(int, words[words.index("routers") + 1:])), tuple(choices))
-        for words, choices in disputes), {int(words[1]): tuple(map(read_path, words[3:])) for words in rows
-                                          if words[0] == "follow"})
+    return StablePrefix(prefix, counted(head[3]), {int(words[1]): read_path(words[3]) for words in rows
+                                                   if words[0] == "route"},
+                        tuple(map(dispute_of, parted(lines, ("dispute",)))),
+                        {int(words[1]): tuple(map(read_path, words[3:])) for words in rows if words[0] == "follow"})
+
+
+def dispute_of(lines: Sequence[str]) -> Dispute:
+    head, *rows = map(str.split, lines)
+    return Dispute(int(head[4]), tuple(map(int, head[head.index("routers") + 1:])),
+                   tuple(tuple(map(read_path, words[1:])) for words in rows if words[0] == "choice"))
 
 
 def read_safe(lines: Sequence[str]) -> tuple[SafePrefix, ...]:
-    return tuple(safe_prefix(rows) for rows in by_prefix(lines))
+    return tuple(map(safe_prefix, parted(lines, ("prefix",))))
 
 
-def safe_prefix(rows: Sequence[list[str]]) -> SafePrefix:
-    head, prefix = rows[0], Prefix.read(rows[0][1])
+def safe_prefix(lines: Sequence[str]) -> SafePrefix:
+    head, *rows = map(str.split, lines)
+    prefix = Prefix.read(head[1])
     if head[2] == "unknown":
         return SafePrefix(prefix, None, router=int(head[4]))
-    rims = [(read_path(words[1]), read_path(words[3])) for words in rows[1:]]
+    rims = [(read_path(words[1]), read_path(words[3])) for words in rows]
     following = [path for path, _ in rims[1:] + rims[:1]]
     return SafePrefix(prefix, head[2] == "safe", tuple(
         Rim(path, better, after[0]) for (path, better), after in zip(rims, following)))
@@ -324,28 +325,23 @@ def read_cut(lines: Sequence[str]) -> Cut:
 
 
 def read_why(lines: Sequence[str]) -> Why:
-    sessions, prefixes = [], []
-    for line in lines[1:]:
-        words = line.split()
-        if words[0] == "peer":
-            sessions.append(Session(int(words[1]), words[2], int(words[4]),
-                                    int(words[words.index("outbox") + 1]) if "outbox" in words else 0,
-                                    line.endswith(" on its way")))
-        elif words[0] == "timers":
-            sessions[-1] = replace(sessions[-1], timers=dict(zip(words[1::2], map(int, words[2::2]))))
-        elif words[0] == "prefix":
-            prefixes.append([line])
-        else:
-            prefixes[-1].append(line)
-    return Why(int(lines[0].split()[1]), tuple(sessions), tuple(map(known_of, prefixes)))
+    (head, *_), *parts = parted(lines, ("router", "peer", "prefix"))
+    return Why(int(head.split()[1]), tuple(session_of(*part) for part in parts if part[0].startswith("peer ")),
+               tuple(known_of(*part) for part in parts if part[0].startswith("prefix ")))
 
 
-def known_of(lines: Sequence[str]) -> Known:
-    words = lines[0].split()
-    heard = [heard_of(*line.split(": ", 1)) for line in lines[1:] if line.split()[0] == "from"]
-    told = [tuple(map(int, line.split()[1:])) for line in lines[1:] if line.split()[0] == "told"]
-    return Known(Prefix.read(words[1]), read_path(words[3].rstrip(",")), lines[0].endswith(", originated"),
-                 tuple(heard), told[0] if told else ())
+def session_of(head: str, timers: str = "") -> Session:
+    words, times = head.split(), timers.split()[1:]
+    return Session(int(words[1]), words[2], int(words[4]),
+                   int(words[words.index("outbox") + 1]) if "outbox" in words else 0, head.endswith(" on its way"),
+                   dict(zip(times[::2], map(int, times[1::2]))))
+
+
+def known_of(head: str, *lines: str) -> Known:
+    words = head.split()
+    heard = tuple(heard_of(*line.split(": ", 1)) for line in lines if line.split()[0] == "from")
+    told = next((tuple(map(int, line.split()[1:])) for line in lines if line.split()[0] == "told"), ())
+    return Known(Prefix.read(words[1]), read_path(words[3].rstrip(",")), head.endswith(", originated"), heard, told)
 
 
 def heard_of(said: str, what: str) -> Heard:
@@ -363,6 +359,11 @@ def heard_of(said: str, what: str) -> Heard:
 def routes_json(routes: Mapping[Tuple[int, Prefix], Path]) -> list[Json]:
     return [{"router": router, "prefix": str(prefix), "path": path_text(path)}
             for (router, prefix), path in routes.items()]
+
+
+def changes_json(changes: Iterable[Tuple[int, Path, Path]]) -> list[Json]:
+    """Routers whose path is another, each with the old one and the new one."""
+    return [{"router": router, "from": path_text(old), "to": path_text(new)} for router, old, new in changes]
 
 
 def snapshot_json(one: Snapshot) -> Json:
@@ -419,9 +420,7 @@ def cut_json(lines: Sequence[str]) -> Json:
 
 def why_json(lines: Sequence[str]) -> Json:
     found = read_why(lines)
-    return {"router": found.router,
-            "peers": [{"peer": one.peer, "state": one.state, "incarnation": one.incarnation, "outbox": one.outbox,
-                       "on_its_way": one.on_its_way, "timers": dict(one.timers)} for one in found.sessions],
+    return {"router": found.router, "peers": list(map(asdict, found.sessions)),
             "prefixes": [{"prefix": str(one.prefix), "keeps": path_text(one.keeps), "originated": one.originated,
                           "from": list(map(heard_json, one.heard)), "told": list(one.told)} for one in found.prefixes]}
 
@@ -463,8 +462,7 @@ def counts_json(trace: Sequence[str]) -> Json:
     """How many events a run had, how many UPDATEs were told, and behind which round its last order of rounds rested."""
     rows = list(rows_of(trace))
     ended = [row for row in rows if row.is_of_rounds]
-    counts = counts_of(rows)
-    return {"events": counts.events, "updates": counts.updates, "rounds": ended[-1].rest if ended else None}
+    return {**asdict(counts_of(rows)), "rounds": ended[-1].rest if ended else None}
 
 
 def said_of(words: Sequence[str], lines: Sequence[str]) -> Json:

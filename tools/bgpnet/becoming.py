@@ -5,8 +5,9 @@ import random
 from collections import Counter
 from typing import Any, Iterator, Tuple
 
+from bgpnet.answers import changes_json
 from bgpnet.live import Chooser
-from bgpnet.network import Network, Path, Prefix, RouteDict, path_text
+from bgpnet.network import Network, Path, Prefix, RouteDict
 from bgpnet.playing import judgement
 from bgpnet.program import Program, Refusal
 
@@ -96,7 +97,5 @@ class Change:
     def object(self) -> dict[str, Any]:
         """The same as JSON has it."""
         return {"prefix": str(self.prefix), "orders": self.orders, "restless": self.restless, "lost": self.lost,
-                "ends": [{"orders": count, "check": said and said.text, "changed": [
-                    {"router": router, "from": path_text(old), "to": path_text(new)}
-                    for router, old, new in self.moved(end)]}
-                    for (end, count), said in zip(self.ends.items(), self.said)]}
+                "ends": [{"orders": count, "check": said and said.text, "changed": changes_json(self.moved(end))}
+                         for (end, count), said in zip(self.ends.items(), self.said)]}

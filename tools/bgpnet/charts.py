@@ -7,7 +7,7 @@ from dataclasses import dataclass, replace
 from typing import Any, Callable, DefaultDict, Deque, Dict, Iterable, Iterator, List, NamedTuple, Sequence, Tuple
 
 from bgpnet import drawing
-from bgpnet.layout import LINE, Box, Point
+from bgpnet.layout import LINE, Box, Point, common
 from bgpnet.network import Link, Network, Prefix, read_path
 from bgpnet.playing import verdict_text
 from bgpnet.program import Program, Refusal
@@ -614,13 +614,6 @@ def part_with_room(network: Network, events: Sequence[Event], shown: Shown, char
     ways = [f"--points {points}"] * bool(points) + [f"--to {last}" for last in numbers[:least][-1:]]
     room = f": {' or '.join(ways)} has room" if ways else ""
     return f"{room}; --from, --from-line, --updates and --prefix show a part"
-
-
-def common(one: Box, other: Box) -> float:
-    """How much two boxes have in common."""
-    width = min(one[2], other[2]) - max(one[0], other[0])
-    height = min(one[3], other[3]) - max(one[1], other[1])
-    return width * height if width > 0 and height > 0 else 0
 
 
 def parted(points: Sequence[Point], top_of: Callable[[int], float],

@@ -14,8 +14,6 @@ STYLE = f"""\
 text {{ font: 12px "DejaVu Sans", Verdana, Helvetica, Arial, sans-serif; fill: {GREY} }}
 .title {{ font-weight: bold; font-size: 13px; fill: {BLACK} }}
 .number {{ font-weight: bold; font-size: 13px; fill: {BLACK}; text-anchor: middle }}
-.wide {{ font-weight: bold; font-size: 10px; fill: {BLACK}; text-anchor: middle }}
-.wider {{ font-weight: bold; font-size: 8px; fill: {BLACK}; text-anchor: middle }}
 .router {{ fill: #f8f9fa; stroke: {GREY}; stroke-width: 2 }}
 .origin {{ fill: #e3f0f8; stroke: {BLUE}; stroke-width: 2 }}
 .ring {{ fill: none; stroke: {BLUE}; stroke-width: 1.5 }}
@@ -55,6 +53,17 @@ LEGEND = {
     "broken": "session down", "silent": "nothing came over it for so long", "provider": "points to the provider",
     "peers": "peers",
 }
+
+
+# What is written into a circle: how high letters are at most, and at least in one row, how wide a text may be in one
+# row and in each of two; how many letters have room in two rows, and how high they are at most.
+LETTERS, LEAST_LETTERS, ROOM, ROW_ROOM, MOST_LETTERS, ROW_LETTERS = 13, 9, 32, 28, 12, 8
+
+
+def width_of(text: str) -> float:
+    """About how wide a text in bold letters is, its letters being 1 high."""
+    return sum(0.5 if letter in "fijlrtI.-_" else 1.1 if letter in "mwMW" else 0.85 if letter.isupper() else 0.71
+               for letter in text)
 
 
 def printable(text: str) -> str:
@@ -190,16 +199,19 @@ class Picture(Canvas):
             self.add("text", text, class_=kinds, x=at_x, y=round(top + LINE * at + 11))
 
     def number(self, router: int, x: float, y: float) -> None:
-        """The number of a router, or its name, as wide as its circle lets it be: a long one in two rows."""
+        """The number of a router, or its name, as large as its circle lets it be: a long one in two rows."""
         text = self.network.names.get(router, str(router))
-        if len(text) <= 4:
-            self.add("text", text, class_="number", x=x, y=y + 5)
-        elif len(text) <= 5:
-            self.add("text", text, class_="wide", x=x, y=y + 4)
+        size = min(LETTERS, int(ROOM / width_of(text)))
+        if size >= LEAST_LETTERS:
+            rows = [(text, y + round(0.38 * size))]
         else:
-            half = -(-min(len(text), 12) // 2)
-            for row, part in enumerate((text[:half], text[half:12])):
-                self.add("text", part, class_="wider", x=x, y=y - 1 + 8 * row)
+            half = -(-min(len(text), MOST_LETTERS) // 2)
+            parts = text[:half], text[half:MOST_LETTERS]
+            size = min(ROW_LETTERS, int(ROW_ROOM / max(map(width_of, parts))))
+            rows = [(part, y - 1 + 8 * row) for row, part in enumerate(parts)]
+        smaller = {"style": f"font-size: {size}px"} if size < LETTERS else {}
+        for part, foot in rows:
+            self.add("text", part, class_="number", **smaller, x=x, y=foot)
 
 
 class Legend(Canvas):

@@ -6,8 +6,8 @@ import dataclasses
 from dataclasses import dataclass
 from typing import Collection, List, Mapping, Sequence, Tuple
 
-from bgpnet.answers import read_play
-from bgpnet.network import Ends, Link, Network, Path, Prefix, lines_text, originations, starts
+from bgpnet.answers import routes_behind
+from bgpnet.network import Ends, Link, Network, Path, Prefix, at_both_ends, lines_text, originations, starts
 from bgpnet.orders import at_random, race_of
 from bgpnet.playing import Said, judgements, reached
 from bgpnet.program import Program, Refusal
@@ -51,13 +51,12 @@ class Failure:
             return [f"restart {self.crash}"]
         if self.silence:
             return self.silence
-        return [f"stop {end} {other}" for link in self.links for end, other in (link, link[::-1])]
+        return at_both_ends("stop", self.links)
 
     def orders_back(self) -> list[str]:
         """The orders by which it comes back."""
-        lines = [f"start {end} {other}" for link in self.links for end, other in (link, link[::-1])]
-        return lines + [f"originate {router} {prefix}" for prefix, router in self.network.origins.items()
-                        if router == self.crash]
+        return at_both_ends("start", self.links) + [
+            f"originate {router} {prefix}" for prefix, router in self.network.origins.items() if router == self.crash]
 
 
 def silence(network: Network, silent: Link) -> list[str]:
@@ -161,9 +160,9 @@ class Player:
         states = []
         for at, place in enumerate(self.schedule(stages)[1]):
             if at or not failures:
-                said = self.program.answer(["play"], self.text(stages[:at]), "the schedule")
                 failure = failures[at - 1][1] if at else None
-                state = StateBehind(read_play(said).routes, seen[place], failure)
+                routes = routes_behind(self.program, self.text(stages[:at]), "the schedule")
+                state = StateBehind(routes, seen[place], failure)
                 if state.stage.rest is None:
                     again = self.again(stages[:at], state.without, bool(failure and failure.silence))
                     state = dataclasses.replace(state, again=again, others=self.others(stages[:at]))
@@ -180,8 +179,7 @@ class Player:
             if stages_of(self.program.trace(text, "the schedule"))[place].rest is None:
                 restless += 1
                 continue
-            said = self.program.answer(["play"], text, "the schedule")
-            ends.setdefault(tuple(read_play(said).routes.items()), []).append(seed)
+            ends.setdefault(tuple(routes_behind(self.program, text, "the schedule").items()), []).append(seed)
         return Others(ends, restless)
 
     def again(self, stages: Sequence[Titled], closed: Collection[Ends], silent: bool) -> Again | None:

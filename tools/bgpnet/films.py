@@ -6,7 +6,7 @@ from typing import Collection, Iterable, Iterator, List, Mapping, Sequence
 
 from bgpnet import drawing, layout
 from bgpnet.network import Ends, Network, Path, Prefix, parts_of, words_of
-from bgpnet.playing import State, captions_of, chosen_prefix, judgement, unstable_of, verdict_text
+from bgpnet.playing import State, chosen_prefix, judged_captions, verdict_text
 from bgpnet.program import Program, Refusal
 from bgpnet.tracing import COMMANDS, Moment, events_of, orders_of
 
@@ -38,11 +38,10 @@ def drawn_routes(program: Program, network: Network, prefix: Prefix | None,
     broken: Collection[Ends] = state.broken if state else ()
     waiting = state.waiting[prefix] if state and prefix else 0
     chosen = {router: path for (router, own), path in routes.items() if own == prefix}
-    judged = judgement(program, network, prefix, chosen, broken) if prefix else None
-    unstable = unstable_of(program, network, prefix, chosen, broken, judged) if prefix else []
     captions = verdict_captions(network, state.snapshots[-1:]) if state else []
-    captions += captions_of(network, judged, unstable, waiting)
-    return layout.Drawn(prefix, chosen, unstable, broken, (), title, captions, state.silent if state else {}, rules)
+    unstable, said = judged_captions(program, network, prefix, chosen, broken, waiting) if prefix else ([], [])
+    return layout.Drawn(prefix, chosen, unstable, broken, (), title, captions + said, state.silent if state else {},
+                        rules)
 
 
 # ---- films
@@ -128,10 +127,9 @@ def drawn_steps(program: Program, network: Network, prefix: Prefix, played: Sequ
         if not shown.first <= at <= shown.last:
             continue
         captions = verdict_captions(network, [verdicts[snapshot] for snapshot in sorted(decided)])
-        judged = judgement(program, network, prefix, routes, moment.broken)
-        unstable = unstable_of(program, network, prefix, routes, moment.broken, judged)
-        if moment.waiting[prefix] or not any(is_good for _, is_good in captions):
-            captions += captions_of(network, judged, unstable, moment.waiting[prefix])
+        waiting = moment.waiting[prefix]
+        unstable, said = judged_captions(program, network, prefix, routes, moment.broken, waiting)
+        captions += said if waiting or not any(is_good for _, is_good in captions) else []
         title = f"{at}. {title_of(network, step)}"
         yield layout.Drawn(prefix, routes, unstable, moment.broken, changed, title, captions, moment.silent,
                            shown.rules)

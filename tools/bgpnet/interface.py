@@ -6,6 +6,7 @@ the program, of a text, is `Refused`, with the line, the code and the sentence. 
 or started is an `OSError`."""
 from __future__ import annotations
 
+import importlib
 import pathlib
 from dataclasses import dataclass, field
 from typing import Any, Iterable, Mapping, Sequence, Tuple, Union
@@ -18,7 +19,7 @@ from bgpnet.decoding import (Attribute, Capability, Decoded, Fault, Keepalive, N
 from bgpnet.failures import Failure, Player, Seen, StateBehind, seen_in
 from bgpnet.live import Preference
 from bgpnet.network import Link, Path, Prefix, parts_of, path_text, read_link, read_router
-from bgpnet.program import Program, Refusal, Refused, found_program, read_octets, read_text, refused
+from bgpnet.program import Program, Refusal, Refused, found_program, read_octets, read_text
 from bgpnet.tracing import Again, Event, counts_of, events_of, orders_of, rest_bound, rows_of
 
 __all__ = [
@@ -130,10 +131,7 @@ class Network:
     # -- what the program says of it
 
     def _answer(self, words: Sequence[str], text: str) -> list[str]:
-        status, lines, said = self.program.run(words, as_octets(text))
-        if status == 1:
-            raise refused(self.name, said)
-        return lines
+        return self.program.answer(words, as_octets(text), self.name)
 
     def stable(self, most: int | None = None, steps: int | None = None) -> tuple[StablePrefix, ...]:
         """All stable assignments, prefix by prefix. `most` and `steps` are the limits of the search, as the words
@@ -212,10 +210,7 @@ class Network:
         if not self.facts.origins:
             raise Refusal(f"{self.name}: no origin, so no routes")
         if begin:
-            down = self.schedule([*begin.orders, f"rounds {rest_bound(self.facts)}"]).state().down
-            if down:
-                raise Refusal(f"{self.name}: behind the schedule not every session is up: "
-                              f"{', '.join(map(self.facts.link_text, down))}")
+            playing.check_all_up(self.program, self.facts, as_octets(self.schedule(begin.orders).text), self.name)
         return Player(self.program, self.facts, list(begin.orders) if begin else None, orders)
 
     def _failure(self, fail: GivenLink | Iterable[GivenLink], crash: int | str | None,
@@ -250,8 +245,12 @@ class Network:
              title: str = "", rules: bool = True) -> Picture:
         """A picture of the network, with the routes of a prefix (the first, if none is given), and what `check` says of
         them."""
+        return self._drawn(routes or {}, None, prefix, title, rules)
+
+    def _drawn(self, routes: Mapping[tuple[int, Prefix], Path], state: playing.State | None,
+               prefix: GivenPrefix | None, title: str, rules: bool) -> Picture:
         chosen = playing.chosen_prefix(self.facts, None if prefix is None else str(prefix))
-        drawn = films.drawn_routes(self.program, self.facts, chosen, routes or {}, None, title, rules)
+        drawn = films.drawn_routes(self.program, self.facts, chosen, routes, state, title, rules)
         return Picture(films.svg_of(self.facts, chosen, [drawn]))
 
     def _repr_svg_(self) -> str:
@@ -285,7 +284,7 @@ class Schedule:
         return self.network.text + texts.lines_text(("schedule", *self.orders))
 
     def _answer(self, *words: str) -> list[str]:
-        return self.network.program.answer(words, as_octets(self.text), self.network.name)
+        return self.network._answer(words, self.text)
 
     def play(self) -> Played:
         """How its snapshots came out, and the routes at its end."""
@@ -369,10 +368,7 @@ class State:
 
     def draw(self, prefix: GivenPrefix | None = None, title: str = "", rules: bool = True) -> Picture:
         """A picture of it, as tools/draw draws it: the routes of a prefix, what is down, and what `check` says."""
-        program, facts = self.network.program, self.network.facts
-        chosen = playing.chosen_prefix(facts, None if prefix is None else str(prefix))
-        drawn = films.drawn_routes(program, facts, chosen, self.behind.routes, self.behind, title, rules)
-        return Picture(films.svg_of(facts, chosen, [drawn]))
+        return self.network._drawn(self.behind.routes, self.behind, prefix, title, rules)
 
     def _repr_svg_(self) -> str:
         return self.draw().svg
@@ -393,7 +389,7 @@ class Assignment:
 
     def check(self) -> Judgement:
         """Whether it is stable."""
-        return read_check(self.network.program.answer(["check"], as_octets(self.text), self.network.name))
+        return read_check(self.network._answer(["check"], self.text))
 
     def _repr_svg_(self) -> str:
         return self.network.draw(self.routes).svg
@@ -520,12 +516,11 @@ def read_configurations(paths: Iterable[str], bird: Iterable[str] = (), best: in
     """The network of routers' configurations, in the languages of FRR and BIRD, as tools/config reads them; the files
     of `bird` are of BIRD, whatever they hold. With `best` a router that has more paths than a rule may have keeps so
     many. Comments of the network call routers by their names."""
-    from bgpnet.configs import files, ranks  # loaded here alone: it takes some time
-    untyped: Any = files, ranks
-    of_files, of_ranks = untyped
+    # Loaded here alone, since it takes some time; and by their names, since they have no types.
+    files, ranks = (importlib.import_module(f"bgpnet.configs.{name}") for name in ("files", "ranks"))
     of_bird = list(bird)
-    routers = of_files.read_set({path: read_text(path) for path in [*paths, *of_bird]}, of_bird)
-    lines, _ = of_ranks.network_lines(of_ranks.Ranks(routers), best)
+    routers = files.read_set({path: read_text(path) for path in [*paths, *of_bird]}, of_bird)
+    lines, _ = ranks.network_lines(ranks.Ranks(routers), best)
     return Network(texts.lines_text(lines), "the configurations", program or default_program())
 
 

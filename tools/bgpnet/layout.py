@@ -255,8 +255,11 @@ def is_inside(point: Point, box: Box, more: float = 0) -> bool:
     return left - more < x < right + more and top - more < y < bottom + more
 
 
-def do_overlap(one: Box, other: Box) -> bool:
-    return one[0] < other[2] and other[0] < one[2] and one[1] < other[3] and other[1] < one[3]
+def common(one: Box, other: Box) -> float:
+    """How much two boxes have in common."""
+    width = min(one[2], other[2]) - max(one[0], other[0])
+    height = min(one[3], other[3]) - max(one[1], other[1])
+    return width * height if width > 0 and height > 0 else 0
 
 
 class Layout:
@@ -318,7 +321,7 @@ class Layout:
                 box = texts.box(self.spots[router], side)
                 cost = OVER_LINK * sum(is_inside(point, box, OFF) for point in points)
                 cost += OVER_ROUTER * sum(is_inside(spot, box, CLEAR) for spot in self.spots.values())
-                cost += OVER_TEXT * sum(do_overlap(box, other) for other in taken)
+                cost += OVER_TEXT * sum(common(box, other) > 0 for other in taken)
                 costs[side] = cost, place
             self.sides[router] = min(costs, key=lambda side: costs[side])
             taken.append(texts.box(self.spots[router], self.sides[router]))

@@ -4,7 +4,7 @@ from __future__ import annotations
 
 from typing import Collection, Mapping
 
-from bgpnet.answers import read_play, read_safe, read_stable
+from bgpnet.answers import read_safe, read_stable, routes_behind
 from bgpnet.network import Ends, Network, Path, Prefix, RouteDict, lines_text, originations, starts
 from bgpnet.orders import at_random, race_of
 from bgpnet.playing import part_text, reached
@@ -61,8 +61,7 @@ def start_in(program: Program, network: Network, wanted: Mapping[tuple[int, Pref
     for seed in range(MOST_TRIED):
         race = at_random(network, seed, race_of(network)) if seed else []
         lines = [*head, *race, f"rounds {rest_bound(network)}"]
-        said = program.answer(["play"], network.text + lines_text(["schedule", *lines]), "an order")
-        routes = read_play(said).routes
+        routes = routes_behind(program, network.text + lines_text(["schedule", *lines]), "an order")
         if all(routes.get(key, ()) == path for key, path in wanted.items()):
             return lines
     raise Refusal(f"none of {MOST_TRIED} orders of the network leads to the routes that are given")

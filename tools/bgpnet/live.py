@@ -66,8 +66,15 @@ def live_paths(network: Network, prefix: Prefix) -> dict[int, list[Path]]:
     return live
 
 
+def is_without_rules(network: Network, prefix: Prefix) -> bool:
+    """Whether no router beside the origin has a rule for a prefix."""
+    origin = network.origins[prefix]
+    return all(network.rule(router, prefix) is None for router in network.routers if router != origin)
+
+
 def shortest_paths(network: Network, prefix: Prefix) -> dict[int, Path]:
-    """The path that each router takes where none has a rule for the prefix: the shortest, and of those the least."""
+    """The path that each router takes where none has a rule for the prefix, none where no path is short enough: the
+    shortest, and of those the least."""
     origin = network.origins[prefix]
     found: dict[int, Path] = {origin: (origin,)}
     last = [origin]
@@ -76,14 +83,13 @@ def shortest_paths(network: Network, prefix: Prefix) -> dict[int, Path]:
         last = sorted({peer for router in last for peer in network.peers[router] if peer not in found})
         for router in last:
             found[router] = (router, *nearer[min(peer for peer in network.peers[router] if peer in nearer)])
-    return found
+    return {router: found.get(router, ()) for router in network.routers}
 
 
 def listed_paths(network: Network, prefix: Prefix) -> dict[int, list[Path]] | None:
     """The paths of each router that can come; of a prefix of no rule one of each. None where these are too many."""
-    if all(network.rule(router, prefix) is None for router in network.routers if router != network.origins[prefix]):
-        shortest = shortest_paths(network, prefix)
-        return {router: [shortest[router]] if router in shortest else [] for router in network.routers}
+    if is_without_rules(network, prefix):
+        return {router: [path] if path else [] for router, path in shortest_paths(network, prefix).items()}
     try:
         return live_paths(network, prefix)
     except GaveUp:

@@ -317,9 +317,14 @@ def link_text(link: Iterable[object]) -> str:
     return "-".join(map(str, link))
 
 
+def at_both_ends(word: str, links: Iterable[Link]) -> list[str]:
+    """An order for each end of each link."""
+    return [f"{word} {end} {other}" for link in links for end, other in (link, link[::-1])]
+
+
 def starts(network: Network) -> list[str]:
     """The orders that start each session of a network from both ends."""
-    return [f"start {end} {other}" for link in network.links for end, other in (link, link[::-1])]
+    return at_both_ends("start", network.links)
 
 
 def originations(network: Network) -> list[str]:

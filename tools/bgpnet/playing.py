@@ -10,7 +10,7 @@ from bgpnet.answers import read_check, read_check_all, snapshot_of
 from bgpnet.network import (Ends, Network, Path, Prefix, RouteDict, lines_text, parts_of, path_text, read_number,
                             read_path, routes_of, words_of)
 from bgpnet.program import Program, Refusal, Refused
-from bgpnet.tracing import Moment, events_of, orders_of
+from bgpnet.tracing import Moment, events_of, orders_of, rest_bound
 
 # The path of each router for one prefix; a router that would move, with its path and its best one; and a line of
 # `check` behind words, with whether it is stable.
@@ -55,6 +55,14 @@ def state_behind(program: Program, text: str, name: str) -> State:
     at = lines.index("now")
     snapshots = [line for line in lines[:at] if line.startswith("snapshot")]
     return State(routes_of(lines[at + 1:]), snapshots, moment.broken, moment.silent, moment.waiting)
+
+
+def check_all_up(program: Program, network: Network, text: str, name: str) -> None:
+    """Refuses a text behind whose schedule, when the network rests, a session is not up."""
+    broken = state_behind(program, f"{text}\nrounds {rest_bound(network)}\n", name).broken
+    if broken:
+        down = ", ".join(network.link_text(link) for link in network.links if frozenset(link) in broken)
+        raise Refusal(f"{name}: behind its schedule not every session is up: {down}")
 
 
 @dataclass(frozen=True)
@@ -169,23 +177,20 @@ def judgements(program: Program, network: Network, routes: Mapping[tuple[int, Pr
     return said
 
 
-def unstable_of(program: Program, network: Network, prefix: Prefix, chosen: Chosen, without: Collection[Ends],
-                judged: Judged | None) -> list[Move]:
-    """The routers that would move where a judgement is not stable, each with its path and its best one."""
-    return moves(program, network, prefix, chosen, without) if judged and judged.first else []
-
-
-def captions_of(network: Network, judged: Judged | None, unstable: Sequence[Move],
-                waiting: int) -> list[tuple[str, bool | None]]:
-    """What is said below a picture: the judgement, if there is one, who would move too, and how many UPDATEs are on
-    their way. Where some are, nothing is at its end, so that a stable judgement is no good news."""
+def judged_captions(program: Program, network: Network, prefix: Prefix, chosen: Chosen, without: Collection[Ends],
+                    waiting: int) -> tuple[list[Move], list[tuple[str, bool | None]]]:
+    """The routers that would move where the paths of a prefix are not stable; and what is said below a picture: the
+    judgement, if there is one, who would move too, and how many UPDATEs are on their way. Where some are, nothing is at
+    its end, so that a stable judgement is no good news."""
+    judged = judgement(program, network, prefix, chosen, without)
+    unstable = moves(program, network, prefix, chosen, without) if judged and judged.first else []
     on_the_way = f"{waiting} UPDATE{'s' * (waiting > 1)} on {'their' if waiting > 1 else 'its'} way"
     if not judged:
-        return [(on_the_way, None)] * bool(waiting)
+        return unstable, [(on_the_way, None)] * bool(waiting)
     is_good = None if judged.is_stable and waiting else judged.is_stable
     lines: list[tuple[str, bool | None]] = [(judged.text + f", and {on_the_way}" * bool(waiting), is_good)]
     others = ", ".join(network.name_of(router) for router, _, _ in unstable[1:])
-    return lines + [(f"would move too: {others}", False)] * bool(others)
+    return unstable, lines + [(f"would move too: {others}", False)] * bool(others)
 
 
 def verdict_text(network: Network, line: str) -> str:

@@ -5,6 +5,7 @@ import argparse
 import bz2
 import functools
 import gzip
+import io
 import os
 import pathlib
 import re
@@ -115,6 +116,8 @@ def count(least: int, most: int) -> Callable[[str], int]:
 def read_octets(name: str) -> bytes:
     """The octets of a file, of the standard input where its name is `-`; what gzip or bzip2 packed is unpacked."""
     if name == "-":
+        if sys.stdin is None:
+            raise Refusal("the standard input is closed")
         return unpacked(name, sys.stdin.buffer.read())
     with open(name, "rb") as file:
         return unpacked(name, file.read())
@@ -137,8 +140,8 @@ def read_text(name: str) -> str:
 
 
 def write_text(text: str) -> None:
-    """Writes a text, in UTF-8 wherever it goes."""
-    sys.stdout.buffer.write(text.encode("utf-8"))
+    """Writes a text, in UTF-8 wherever it goes; octets of a name that are no UTF-8 as question marks."""
+    sys.stdout.buffer.write(text.encode("utf-8", "replace"))
 
 
 def refused(name: str, said: str) -> Refused:
@@ -176,7 +179,7 @@ class Program:
     def answer(self, words: Sequence[str], text: str, name: str) -> list[str]:
         """The lines that the program prints for a text that it takes; a refusal names the line of the file `name`."""
         status, lines, said = self.run(words, text)
-        if status:
+        if status == 1:
             raise refused(name, said)
         return lines
 
@@ -185,9 +188,22 @@ class Program:
         return self.answer(["trace"], text, name)
 
 
+def ready_streams() -> None:
+    """Has what can't be written come out as an escape, such as the name of a file that is no UTF-8, and what is said on
+    a standard error that is closed go nowhere."""
+    if sys.stderr is None:
+        sys.stderr = open(os.devnull, "w")
+    if sys.stdout is None:
+        raise Refusal("the standard output is closed")
+    if sys.stdout.errors == "strict" and isinstance(sys.stdout, io.TextIOWrapper):
+        sys.stdout.reconfigure(errors="backslashreplace")
+
+
 def run_tool(main: Callable[[], int | None]) -> NoReturn:
     """Runs a tool, ends with its status, and prints a refusal, or a file that can't be read, as one line."""
+    why: Refusal | None = None
     try:
+        ready_streams()
         status = main()
         sys.stdout.flush()
     except BrokenPipeError:
@@ -195,13 +211,19 @@ def run_tool(main: Callable[[], int | None]) -> NoReturn:
         status = 0
     except KeyboardInterrupt:
         status = 130
-    except Refusal as why:
+    except Refusal as own:
+        why = own
+    except OSError as error:
+        why = Refusal(f"{error.filename or 'standard streams'}: {error.strerror}")
+    except MemoryError:
+        why = Refusal("there is not enough memory for this input")
+    except RecursionError:
+        why = Refusal("the input is nested too deep")
+    except UnicodeEncodeError as error:
+        why = Refusal(f"{error.object!r} can't be written in {error.encoding}")
+    if why is not None:
         print("".join(f"{os.path.basename(sys.argv[0])}: {line}\n" for line in why.lines), end="", file=sys.stderr)
-        status = 1
-    except OSError as why:
-        print(f"{os.path.basename(sys.argv[0])}: {why.filename or 'standard streams'}: {why.strerror}", file=sys.stderr)
-        status = 1
-    sys.exit(status or 0)
+    sys.exit(1 if why is not None else status or 0)
 
 
 def tool(main: Callable[[], int | None]) -> Callable[[], NoReturn]:

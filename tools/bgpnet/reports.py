@@ -2,7 +2,7 @@
 from __future__ import annotations
 
 import json
-from typing import Any, Iterator, Mapping
+from typing import Any, Iterator, Mapping, Sequence
 
 from bgpnet.network import Path, Prefix, RouteDict, numbered, read_path
 from bgpnet.program import Refusal
@@ -23,14 +23,17 @@ def read_report(text: str, name: str) -> RouteDict:
 
 def of_lines(text: str, name: str) -> RouteDict:
     """The paths of `route` and `path` lines."""
-    routes: RouteDict = {}
+    return {(router, prefix): path for _, router, prefix, path in lines_of(text, name, ("route", "path"))}
+
+
+def lines_of(text: str, name: str, kinds: Sequence[str]) -> Iterator[tuple[int, int, Prefix, Path]]:
+    """The number, the router, the prefix and the path of each line of these kinds."""
     for number, words in numbered(text.splitlines()):
-        if words[0] in ("route", "path"):
+        if words[0] in kinds:
             try:
-                routes[int(words[1]), Prefix.named(words[2])] = read_path(words[3])
+                yield number, int(words[1]), Prefix.named(words[2]), read_path(words[3])
             except (Refusal, ValueError, IndexError):
                 raise Refusal(f"{name}:{number}: no `route AS PREFIX PATH`") from None
-    return routes
 
 
 def of_json(text: str, name: str) -> RouteDict:

@@ -6,8 +6,8 @@ from dataclasses import asdict, dataclass
 from typing import Any, Dict, Iterable, Iterator, List, Mapping, NamedTuple, Sequence, Tuple, Union
 
 from bgpnet import jobs
-from bgpnet.answers import Rim, read_play
-from bgpnet.live import GaveUp, live_paths, shortest_paths
+from bgpnet.answers import Rim, read_play, routes_behind
+from bgpnet.live import GaveUp, is_without_rules, listed_paths, live_paths, shortest_paths
 from bgpnet.network import Link, Network, Path, Prefix, lines_text, originations, path_text, starts
 from bgpnet.orders import MOST_LINES, at_random, lock_step, race_of
 from bgpnet.playing import Said, judgements
@@ -73,9 +73,12 @@ def found_of(program: Program, network: Network, prefix: Prefix, most: int) -> F
     """What is found of a prefix. The program is asked for a dispute wheel and for the stable assignments; a wheel that
     it finds is looked for here too, since a smaller one may be there."""
     origin = network.origins[prefix]
+    if is_without_rules(network, prefix):
+        # No wheel can be where each router likes the shorter path better: round it, each path would be longer than the
+        # next. So there is one stable assignment.
+        chosen = shortest_paths(network, prefix)
+        return Found(prefix, origin, most, listed_paths(network, prefix), [chosen], True)
     free = {router for router in network.routers if network.rule(router, prefix) is None}
-    if free.issuperset(set(network.routers) - {origin}):
-        return found_shortest(network, prefix, most)
     try:
         paths = live_paths(network, prefix)
     except GaveUp as why:
@@ -88,15 +91,6 @@ def found_of(program: Program, network: Network, prefix: Prefix, most: int) -> F
     except GaveUp as why:
         return Found(prefix, origin, most, paths, wheel=wheel, why=str(why))
     return Found(prefix, origin, most, paths, assignments, are_all, wheel)
-
-
-def found_shortest(network: Network, prefix: Prefix, most: int) -> Found:
-    """No wheel can be where each router likes the shorter path better: round it, each path would be longer than the
-    next. So there is one stable assignment."""
-    shortest = shortest_paths(network, prefix)
-    paths = {router: [shortest[router]] if router in shortest else [] for router in network.routers}
-    chosen = {router: shortest.get(router, ()) for router in network.routers}
-    return Found(prefix, network.origins[prefix], most, paths, [chosen], True)
 
 
 def judged_assignments(program: Program, network: Network, found: Found,
@@ -229,8 +223,7 @@ class Timing:
         orders = shortest_orders(network, prefix)
         for end, order in (orders or {}).items():
             text = network.text + lines_text(["schedule", *schedule_of(network, prefix, order)])
-            said = program.answer(["play"], text, "an order")
-            routes = read_play(said).routes
+            routes = routes_behind(program, text, "an order")
             if all(routes[router, prefix] == path for router, path in end):
                 self.ends.append((end, order, text))
         self.words = [sentence(network, *pair) for pair in self.pairs()] if len(self.ends) == 2 else []

@@ -915,6 +915,8 @@ class Printed(unittest.TestCase):
         self.assertEqual(out, "prefix 10.1.0.0/16 of 65001\n  ties: 1, orders played: 2\n"
                               "    1  settled 65001 65002-65001 65003-65001 65004-65002-65001\n"
                               "    1  settled 65001 65002-65001 65003-65001 65004-65003-65001\n")
+        called = {name: f"hostname {name[:2]}\n" + text for name, text in diamond().items()}
+        self.assertEqual(run("config", "--ties", *self.write(called, "called"))[1], re.sub(r"6500(\d)", r"r\1", out))
         both = diamond()
         both["r1.conf"] = both["r1.conf"].replace(f"network {ONE}", f"network {ONE}\n network {TWO}")
         said = run("config", "--ties", *self.write(both, "both"))[1]

@@ -118,6 +118,19 @@ class Documents(unittest.TestCase):
             self.assertIn(f"tools/{tool}", (TOP / "tools/README.md").read_text())
 
 
+class Sweeps(unittest.TestCase):
+    def test_words(self):
+        """The sweeps over the built program read their words as the tools do, and say what they can't do."""
+        for name in ("run", "full", "memory", "stable"):
+            with self.subTest(name=name):
+                sweep = f"../sweeps/{name}"
+                self.assertEqual(run(sweep, "--help")[::2], (0, ""))
+                self.assertIn(f"    sweeps/{name} [PROGRAM", (TOP / "sweeps" / name).read_text())
+                self.assertEqual(run(sweep, "--frobnicate")[:2], (2, ""))
+                status, out, error = run(sweep, "/nowhere")
+                self.assertEqual((status, out, error.startswith(f"{name}: no program at /nowhere: ")), (1, "", True), error)
+
+
 class Sheets(unittest.TestCase):
     """`examples/try FILE ..`, which tries sheets of a reader's own."""
 

@@ -124,8 +124,7 @@ class Draw(unittest.TestCase):
             prefix = next(iter(network.origins))
             routes = {router: self.some_path(network, prefix, router, draw) for router in network.routers}
             routes[network.origins[prefix]] = (network.origins[prefix],)
-            said = playing.judgement(asked_program(), network, prefix, routes)
-            found = playing.unstable_of(asked_program(), network, prefix, routes, (), said)
+            found, _ = playing.judged_captions(asked_program(), network, prefix, routes, (), 0)
             with self.subTest(seed=seed):
                 self.assertEqual({router: best for router, _, best in found}, movers(network, routes))
                 self.assertEqual({router: path for router, path, _ in found},
@@ -177,14 +176,38 @@ class Draw(unittest.TestCase):
                 "link 64500 7\norigin 64500 10.1.0.0/16\nrank 7 10.1.0.0/16 7-64500\n# 7 called west-1\n")
         status, out, _ = run("draw", "-", given=text.encode())
         self.assertEqual(status, 0)
-        written = re.findall(r'class="(number|wide|wider)"[^>]*>([^<]*)<', out)
-        self.assertEqual(sorted(written), [("wide", "64500"), ("wider", "00123"), ("wider", "42000"), ("wider", "t-1"),
-                                           ("wider", "wes")])
+        self.assertEqual([text for text, _, _ in self.in_circles(out)], ["wes", "t-1", "64500", "42000", "00123"])
         self.assertIn(">west-1-64500</text>", out)
         self.assertIn("<title>router 7 west-1\n", out.replace("</title>", "\n"))
-        for kind, letters in (("number", 4), ("wide", 5), ("wider", 6)):
-            size = int(re.search(rf"\.{kind} {{[^}}]*font-size: (\d+)px", drawing.STYLE)[1])
-            self.assertLess(letters * size * 0.66, 2 * layout.RADIUS - 1)
+
+    # How wide letters of DejaVu Sans Bold are, 1 high.
+    WIDTHS = {**dict.fromkeys("0123456789", 0.696), "a": 0.675, "c": 0.593, "e": 0.678, "g": 0.716, "m": 1.042,
+              "o": 0.687, "r": 0.493, "s": 0.595, "t": 0.478, "u": 0.712, "w": 0.924, "y": 0.652, "W": 1.103, "-": 0.415}
+
+    @staticmethod
+    def in_circles(out):
+        """What is written into circles, how high its letters are, and how far its middle is from that of the circle."""
+        for group in re.findall("<g>\n<title>.*?</g>", out, re.S):
+            middle = int(re.findall(r'cy="(\d+)" r="18"', group)[0])
+            for style, foot, text in re.findall(r'<text class="number"([^>]*?) x="[^"]*" y="(\d+)">([^<]*)<', group):
+                size = int(re.search(r"font-size: (\d+)px", style)[1]) if style else 13
+                yield text, size, int(foot) - 0.36 * size - middle
+
+    def test_what_is_written_fits_its_circle(self):
+        """Between the ends of its chord at half the height of the letters, numbers and names of any width."""
+        numbers = (7, 65, 174, 3356, 8888, 64500, 263000, 4200000123)
+        names = ("west", "mmmm", "WWW", "gateway", "core-router-1", "mmmmmmmmmmmm")
+        routers = [*numbers, *range(1, len(names) + 1)]
+        text = "asn 4\n" + "".join(f"router {one} 10.0.0.{at}\n" for at, one in enumerate(routers, 1))
+        text += "".join(f"link {one} {other}\n" for one, other in zip(routers, routers[1:])) + "origin 7 10.1.0.0/16\n"
+        text += "".join(f"# {at} called {name}\n" for at, name in enumerate(names, 1))
+        found = list(self.in_circles(run("draw", "-", given=text.encode())[1]))
+        self.assertEqual(len(found), len(routers) + 6)
+        for word, size, away in found:
+            chord = 2 * math.sqrt((layout.RADIUS - 1) ** 2 - (abs(away) + 0.2 * size) ** 2)
+            with self.subTest(word=word, size=size):
+                self.assertLess(sum(map(self.WIDTHS.get, word)) * size, chord)
+                self.assertGreaterEqual(size, 4)
 
     def test_no_rules_and_a_slide(self):
         picture = drawn("examples/disagree.txt", "--no-rules")

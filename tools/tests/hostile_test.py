@@ -1,4 +1,5 @@
 """No tool ends in a traceback, whatever it reads: texts that are made to stumble over, and files that are cut anywhere."""
+import os
 import pathlib
 import random
 import subprocess
@@ -7,6 +8,9 @@ import tempfile
 import unittest
 
 from support import TOP, program_path, run
+
+from bgpnet.configs.lab import obey
+from bgpnet.program import Refusal
 
 NETWORK = b"router 1 10.0.0.1\nrouter 2 10.0.0.2\nrouter 3 10.0.0.3\nlink 1 2\nlink 2 3\nlink 1 3\norigin 1 10.1.0.0/16\n"
 SCHEDULE = NETWORK + b"schedule\nstart 1 2\nstart 2 1\noriginate 1 10.1.0.0/16\nrounds 9\nsnapshot 1 1\nrounds 9\n"
@@ -42,14 +46,15 @@ def cut(draw, octets, number):
 
 class Hostile(unittest.TestCase):
     def ends(self, tool, *words, given=b""):
-        """The tool ends by itself, with a status of its own, and says why where it refuses. What is no `SystemExit`
-        comes through as the error of this test."""
+        """The tool ends by itself, with a status of its own, and says why where it refuses; answers what it says there.
+        What is no `SystemExit` comes through as the error of this test."""
         with self.subTest(tool=tool, words=words, given=given[:80]):
             status, out, error = run(tool, *words, given=given)
             self.assertIn(status, (0, 1, 2, 3, 4, 5, 6))
             self.assertNotIn("Traceback", error)
             if status == 1 and tool not in ("streams", "config", "ask"):
                 self.assertTrue(error.startswith(f"{tool}: "), (out, error))
+            return error
 
     def test_texts(self):
         draw = random.Random(1)
@@ -125,6 +130,81 @@ class Hostile(unittest.TestCase):
             self.ends("streams", "--decode", "--prefix", prefix, "examples/session.pcap")
             self.ends("draw", "--prefix", prefix, "examples/disagree.txt")
 
+    def test_what_is_nested(self):
+        """Brackets, calls and lists that stand in one another deeper than Python calls."""
+        wedgie, bird = (sorted((TOP / "examples/config" / name).glob("*.conf")) for name in ("wedgie", "bird"))
+        paths, large = "bgp as-path access-list X permit ", "bgp large-community-list expanded X permit "
+        calls = "".join(f"route-map M{at} permit 1\n call M{at + 1}\nexit\n" for at in range(700))
+        with tempfile.TemporaryDirectory() as place:
+            given = pathlib.Path(place, "given.conf")
+            for lines, why in ((paths + "(" * 5000, "in one another"), (paths + "(" * 999 + "1" + ")" * 999, "in one another"),
+                               (paths + "1" + "*" * 999, "in one another"), (large + "(" * 999 + "1" + ")" * 999, "in one another"),
+                               (calls, "route-map M0: more than 10 calls in one another")):
+                given.write_text(lines + "\n" + wedgie[0].read_text())
+                self.assertIn(why, self.ends("config", given, *wedgie[1:]))
+            for text in ("define X = " + "(" * 3000 + "1;", "define X = " + "!" * 4000 + "true;",
+                         "filter f { " + "if net.len = 1 then " * 1500 + "accept; }", "filter f " + "{" * 4000,
+                         "define X = [" * 3000, 'define X = "' + "a" * 6000 + '" ~ "' + "a" * 6000 + '";'):
+                given.write_text(text + "\n" + bird[0].read_text())
+                self.ends("config", given, *bird[1:])
+            for text in (b"[" * 100_000, b'{"a":' * 100_000):
+                given.write_bytes(text)
+                self.ends("config", "--verify", given, *wedgie)
+        for text in (b"<a>" * 50_000, b"graph g {" * 5000, b"graph g { a -- b [x=" + b"<" * 5000):
+            for form in ("graphml", "dot"):
+                self.ends("topology", "--from", form, "-", given=text)
+
+    def test_numbers_and_names_of_bird(self):
+        bird = sorted((TOP / "examples/config/bird").glob("*.conf"))
+        with tempfile.TemporaryDirectory() as place:
+            given, other = pathlib.Path(place, "given.conf"), pathlib.Path(place, "other.inc")
+            other.write_bytes(b'include "a\0b";\n')
+            pathlib.Path(place, "policy.inc").symlink_to(bird[0].parent / "policy.inc")
+            many = "9" * 5000
+            for text, why in ((f"define X = {many};", "a number has at most 32 bits"), (f"define X = 0x{many};", "32 bits"),
+                              (f"define X = 1.1.1.{many};", "is no address"), (f"define X = {many}:1;", ""),
+                              (f"define X = [{many}..{many}];", "32 bits"), ('include "other.inc";', "'include"),
+                              ('include "[";', ""), ('include "/";', "Is a directory"), (f'include "{"a" * 5000}";', "too long")):
+                given.write_text(text + "\n" + bird[0].read_text())
+                self.assertIn(why, self.ends("config", given, *bird[1:]))
+            given.write_text(f"define X = {'0' * 5000}7;\n" + bird[0].read_text())
+            self.assertEqual(run("config", given, *bird[1:])[0], 0)
+
+    def test_encodings(self):
+        for encoding in (b"foo", b"utf-7", b"gbk", b"utf-16"):
+            self.ends("topology", "--from", "graphml", "-",
+                      given=b"<?xml version='1.0' encoding='" + encoding + b"'?><graphml/>")
+        for octets in ("\udcff", "\udc80x.txt"):
+            self.ends("draw", "--title", octets, "examples/disagree.txt")
+            self.ends("lint", octets)
+            self.ends("handout", f"/nowhere/{octets}.zip")
+        wedgie = sorted((TOP / "examples/config/wedgie").glob("*.conf"))
+        with tempfile.TemporaryDirectory() as place:
+            other = pathlib.Path(place, "\udcff.conf")
+            other.write_bytes(wedgie[1].read_bytes())
+            status, out, error = run("config", "--explain", 2, "10.1.0.0/16", wedgie[0], other, *wedgie[2:])
+            self.assertEqual((status, "\\udcff.conf:46 route-map" in out), (0, True), (out, error))
+            other.write_text((TOP / "examples/disagree.txt").read_text())
+            self.ends("player", other)
+            self.ends("handout", pathlib.Path(place, "\udcff.zip"), other)
+
+    def test_standard_streams(self):
+        """One that is closed, or full, is named; and what reads all that there is says where that is too much."""
+        draw, file = f"{sys.executable} {TOP}/tools/draw", f"{TOP}/examples/disagree.txt"
+        for command, said in ((f"{draw} {file} >&-", "draw: the standard output is closed\n"),
+                              (f"{draw} - <&-", "draw: the standard input is closed\n"),
+                              (f"{draw} {file} >/dev/full", "draw: standard streams: No space left on device\n"),
+                              (f"{draw} /nowhere 2>&-", ""), (f"{draw} {file} <&- 2>&-", ""),
+                              (f"{sys.executable} {TOP}/tools/settle {file} --play 2 2>&-", ""),
+                              (f"{sys.executable} {TOP}/examples/try >&-", "try: the standard output is closed\n"),
+                              (f"ulimit -v 90000; head -c 90000000 /dev/zero | {sys.executable} {TOP}/tools/streams -",
+                               "streams: there is not enough memory for this input\n")):
+            with self.subTest(command=command):
+                done = subprocess.run(["bash", "-c", command], capture_output=True, text=True,
+                                      env=dict(os.environ, BGPNET=str(program_path)))
+                self.assertEqual((done.stderr, done.returncode), (said, 1 if said or "nowhere" in command else
+                                                                  5 if "settle" in command else 0))
+
     def test_files(self):
         with tempfile.TemporaryDirectory() as place:
             for at, text in enumerate(WHOLE[:6]):
@@ -132,13 +212,18 @@ class Hostile(unittest.TestCase):
                 other.write_bytes(text)
                 self.ends("handout", pathlib.Path(place, f"{at}.zip"), other)
                 self.ends("draw", "examples/disagree.txt", "--routes", other)
+            pathlib.Path(place, "igp.txt").write_bytes(b"\xff")
+            pathlib.Path(place, "a.conf").write_bytes(b"router bgp 1\n")
+            self.assertEqual(run("beside", place)[0], 1)
+        with self.assertRaises(Refusal):  # what the system refuses, such as a namespace
+            obey(["false"])
         self.ends("handout", "/nowhere/x.zip")
         self.ends("pictures", "--program", "/nowhere")
 
     def test_sheets(self):
         with tempfile.TemporaryDirectory() as place:
             names = []
-            for at, text in enumerate(WHOLE):
+            for at, text in enumerate([*WHOLE, b"# words: why \0\n# answer: x\n" + NETWORK]):
                 names.append(str(pathlib.Path(place, f"{at}.txt")))
                 pathlib.Path(names[-1]).write_bytes(text)
             done = subprocess.run([sys.executable, TOP / "examples/try", *names, place, "/nowhere"], capture_output=True,

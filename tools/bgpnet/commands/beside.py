@@ -46,7 +46,7 @@ from bgpnet.configs.igp import Edges
 from bgpnet.configs.ranks import Ranks
 from bgpnet.configs.some_sets import INSIDE as INSIDE_AN_AS
 from bgpnet.configs.some_sets import KINDS, make
-from bgpnet.program import Program, Refusal, Words, count, tool
+from bgpnet.program import Program, Refusal, Words, count, read_text, tool
 
 INSIDE = "BESIDE_INSIDE"
 
@@ -128,9 +128,9 @@ def texts_of(asked):
     paths = sorted(pathlib.Path(asked.folder).glob("*.conf"))
     if not paths:
         raise Refusal(f"{asked.folder}: no files *.conf")
-    found = {str(path): path.read_bytes().decode("latin-1") for path in paths}
-    edges = pathlib.Path(asked.folder, EDGES)
-    return {**found, EDGES: edges.read_text()} if edges.exists() else found
+    found = {str(path): read_text(str(path)) for path in paths}
+    edges = os.path.join(asked.folder, EDGES)
+    return {**found, EDGES: read_text(edges)} if os.path.exists(edges) else found
 
 
 def inside(asked, program):

@@ -48,7 +48,7 @@ def read_files(names, asked, known=()):
 
 def chosen_prefixes(asked):
     """The prefixes whose paths are asked for, or None for all."""
-    return [read_prefix(asked.explain[1])] if asked.explain else asked.prefix or None
+    return [Prefix.named(asked.explain[1])] if asked.explain else asked.prefix or None
 
 
 def read_both(names, others, asked):
@@ -75,12 +75,6 @@ def asn_word(word):
 def warn(notes):
     for place, said in notes:
         print(f"config: warning: {place}: {said}", file=sys.stderr)
-
-
-def read_prefix(word):
-    if prefix_of(word) is None:
-        raise Refusal(f"'{word}' is no prefix")
-    return Prefix.read(word)
 
 
 def asked_words():
@@ -110,7 +104,7 @@ def asked_words():
     at = sys.argv.index("--") if "--" in sys.argv else len(sys.argv)
     asked, behind = words.parse_args(sys.argv[1:at]), sys.argv[at + 1:]
     asked.files += [word for word in asked.prefix if prefix_of(word) is None]
-    asked.prefix = [read_prefix(word) for word in asked.prefix if prefix_of(word) is not None]
+    asked.prefix = [Prefix.named(word) for word in asked.prefix if prefix_of(word) is not None]
     asked.files += asked.bird
     if bool(behind) != asked.check:
         words.error("--check takes files, then --, then files")

@@ -16,25 +16,19 @@ of more than twelve routers a browser shows the rule of the one under the pointe
 providers. A comment `# 30 at 2 1` puts router 30 two steps to the right and one down, and `# 30 called west` writes
 that name into its circle. A legend says what is what."""
 from bgpnet.films import drawn_routes, svg_of
-from bgpnet.network import network_asked, numbered, routes_of
+from bgpnet.network import network_asked, routes_of
 from bgpnet.playing import chosen_prefix, state_behind
 from bgpnet.program import Refusal, Words, read_text, tool, write_text
+from bgpnet.reports import lines_of
 
 
 def reported(network, name):
     """The routes of a report, the last of each router and prefix."""
     routes = {}
-    for number, words in numbered(read_text(name).splitlines()):
-        if words[0] != "route":
-            continue
-        try:
-            found = routes_of([" ".join(words)])
-        except (ValueError, IndexError):
-            raise Refusal(f"{name}:{number}: no `route AS PREFIX PATH`") from None
-        for (router, _), path in found.items():
-            if not {router, *path} <= set(network.routers) or path[:1] not in ((router,), ()):
-                raise Refusal(f"{name}:{number}: a route of another network")
-        routes.update(found)
+    for number, router, prefix, path in lines_of(read_text(name), name, ("route",)):
+        if not {router, *path} <= set(network.routers) or path[:1] not in ((router,), ()):
+            raise Refusal(f"{name}:{number}: a route of another network")
+        routes[router, prefix] = path
     return routes
 
 

@@ -197,6 +197,8 @@ def read_graphml(text, name):
         root = xml.etree.ElementTree.fromstring(text)
     except xml.etree.ElementTree.ParseError as why:
         raise Refusal(f"{name}:{why.position[0]}: {why}")
+    except (LookupError, ValueError) as why:
+        raise Refusal(f"{name}: {why}")
     elements = [(element.tag.split("}")[-1], element) for element in root.iter()]
     keys = {element.get("id") for tag, element in elements if tag == "key" and element.get("attr.name") == "label"}
     names, labels, edges = {}, {}, []

@@ -29,15 +29,14 @@ import json
 import sys
 
 from bgpnet import jobs
-from bgpnet.answers import routes_json
+from bgpnet.answers import changes_json, routes_json
 from bgpnet.becoming import Change, check_alike
 from bgpnet.failures import Failure, Player, alike_key, seen_in
 from bgpnet.leftover import ends_left, is_safe, start_in
-from bgpnet.network import network_asked, path_text, read_link, read_network, read_router
-from bgpnet.playing import state_behind
+from bgpnet.network import network_asked, read_link, read_network, read_router
+from bgpnet.playing import check_all_up
 from bgpnet.program import Refusal, Words, count, grouped, read_text, tool
 from bgpnet.reports import read_report
-from bgpnet.tracing import rest_bound
 
 # Where a state stands: before anything fails, behind a failure, and when all is back.
 BEFORE, BEHIND, BACK = range(3)
@@ -111,8 +110,7 @@ def state_object(state, seen):
                      for routes, seeds in state.others.ends.items()]},
         "prefixes": [{
             "prefix": str(prefix), "origin": one.origin, "updates": one.updates,
-            "changed": [{"router": router, "from": path_text(old), "to": path_text(new)}
-                        for router, old, new in one.changed],
+            "changed": changes_json(one.changed),
             "without": one.without, "cut_off": one.cut_off, "lost": one.lost,
             "not_as_before": [router for router, _, _ in one.other], "check": one.said[0], "stable": one.said[1],
         } for prefix, one in seen.items()]}
@@ -259,10 +257,7 @@ def main():
     if asked.scheduled and section != "schedule":
         raise Refusal(f"{asked.network}: no schedule")
     if asked.scheduled:
-        broken = state_behind(program, f"{text}\nrounds {rest_bound(network)}\n", asked.network).broken
-        if broken:
-            down = ", ".join(network.link_text(link) for link in network.links if frozenset(link) in broken)
-            raise Refusal(f"{asked.network}: behind its schedule not every session is up: {down}")
+        check_all_up(program, network, text, asked.network)
     if asked.becomes:
         return becomes(program, network, scheduled_of(program, network, rest, asked), asked)
     failures = failures_of(network, asked)

@@ -3,11 +3,10 @@ IGP in a namespace of its own, its interfaces joined as their subnets say.
 
 Where a file gives the edges of the IGP, no IGP runs: each router gets routes with their metrics by hand."""
 import pathlib
-import subprocess
 import time
 
 from bgpnet.configs import frr
-from bgpnet.configs.lab import LOOK, Lab
+from bgpnet.configs.lab import LOOK, Lab, obey
 from bgpnet.configs.ribs import network_of, shortest_ways
 from bgpnet.configs.sessions import dotted
 
@@ -30,7 +29,7 @@ def make_group(folder):
         return
     copy = pathlib.Path(folder, "group")
     copy.write_text(text + f"{GROUP}:x:65533:root\n")
-    subprocess.run(["mount", "--bind", copy, GROUPS], check=True)
+    obey(["mount", "--bind", copy, GROUPS])
 
 
 class AsTable(frr.Table):
@@ -137,7 +136,7 @@ class AsLab(Lab):
         self.run_in(0, switch)
         for number, own_lines in lines.items():
             self.run_in(number, own_lines)
-            subprocess.run(self.inside(number, ["sysctl", "-qw", "net.ipv4.ip_forward=1"]), check=True)
+            obey(self.inside(number, ["sysctl", "-qw", "net.ipv4.ip_forward=1"]))
 
     @staticmethod
     def address_lines(interface, name):

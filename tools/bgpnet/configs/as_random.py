@@ -1,6 +1,7 @@
 """Makes random sets of configurations in which ASes have several routers, the same for the same seed: full meshes and
 route reflectors over an IGP, sessions between ASes at several places, and policies of a few kinds."""
 import heapq
+from collections import namedtuple
 
 from bgpnet.configs.random_networks import Draw
 from bgpnet.network import lines_text
@@ -10,12 +11,9 @@ PREFIXES = ("10.1.0.0/16", "10.2.0.0/16", "192.168.7.0/24", "172.16.0.0/12")
 EDGES = "igp.txt"
 
 
-class Link:
+class Link(namedtuple("Link", "ends number costs carried")):
     """A subnet of two routers or more: their places, the subnet's number, the cost of each end, and of each whether its
     IGP has the subnet where they are of several ASes."""
-
-    def __init__(self, ends, number, costs, carried):
-        self.ends, self.number, self.costs, self.carried = ends, number, costs, carried
 
     def address(self, place):
         return f"10.100.{self.number}.{1 + self.ends.index(place)}"

@@ -41,28 +41,25 @@ class BgpLines(Blocks):
         self.router.router_id = Line(address, self.place)
 
     def do_option(self, words, line):
-        is_set = words[0] != "no"
-        self.router.options[" ".join(words if is_set else words[1:])] = Line(is_set, self.place)
+        self.router.options[" ".join(words)] = Line(self.is_set, self.place)
 
     def do_med(self, words, line):
-        self.router.options["bgp bestpath med missing-as-worst"] = Line(words[0] != "no", self.place)
+        self.router.options["bgp bestpath med missing-as-worst"] = Line(self.is_set, self.place)
 
     def do_default_preference(self, words, line):
-        is_set = words[0] != "no"
-        self.router.default_preference = int(words[3]) if is_set else 100
-        self.router.default_line = (f"{self.place} bgp default local-preference",) if is_set else None
+        self.router.default_preference = int(words[3]) if self.is_set else 100
+        self.router.default_line = (f"{self.place} bgp default local-preference",) if self.is_set else None
 
     def do_default_family(self, words, line):
-        self.router.activates = words[0] != "no"
+        self.router.activates = self.is_set
 
     def do_cluster_id(self, words, line):
-        is_set = words[0] != "no"
-        number = address_of(words[2]) if is_set and "." in words[2] else number_of(words[-1])
-        self.router.cluster_line = Line(number, self.place) if is_set else None
+        number = address_of(words[-1]) if "." in words[-1] else number_of(words[-1])
+        self.router.cluster_line = Line(number, self.place) if self.is_set else None
 
     def do_clusters(self, words, line):
         """With `equal-cluster-length` the length of CLUSTER_LIST is compared where the metrics are equal."""
-        self.router.options["equal-cluster-length"] = Line(words[0] != "no", self.place)
+        self.router.options["equal-cluster-length"] = Line(self.is_set, self.place)
 
     def do_family_ipv4(self, words, line):
         self.block = "family"
@@ -124,8 +121,7 @@ class BgpLines(Blocks):
 
     def do_flag(self, words, line):
         """What a neighbor has or has not, by the word of its line."""
-        word = words[3] if words[0] == "no" else words[2]
-        self.say(words, "disable-connected-check" if word == "enforce-multihop" else word, True)
+        self.say(words, "disable-connected-check" if words[2] == "enforce-multihop" else words[2], True)
 
     def do_hop_self(self, words, line):
         """`next-hop-self` and `next-hop-self force` are two flags, of which `no` takes back its own."""
@@ -166,31 +162,31 @@ class BgpLines(Blocks):
 
     def say(self, words, kind, value):
         """Keeps what a line says of a neighbor. With `no` it is as if nothing was said: a member goes by its group."""
-        found = self.neighbor(words[2] if words[0] == "no" else words[1])
-        if words[0] == "no":
-            found.said.pop(kind, None)
+        said = self.neighbor(words[1]).said
+        if self.is_set:
+            said[kind] = Line(value, self.place)
         else:
-            found.said[kind] = Line(value, self.place)
+            said.pop(kind, None)
 
     def do_source(self, words, line):
         address = address_of(words[-1])
         self.say(words, "source", address if address is not None else words[-1])
 
     def do_password(self, words, line):
-        if words[0] != "no" and len(words[3]) > MOST_PASSWORD:
+        if self.is_set and len(words[3]) > MOST_PASSWORD:
             self.refuse(f"'neighbor {words[1]} password': {NOT_TAKEN}: a password has at most {MOST_PASSWORD} octets")
         self.say(words, "password", words[-1])
 
     def do_hops(self, words, line):
         """FRR does not take `ttl-security` where `ebgp-multihop` stands above it."""
-        kind = words[3] if words[0] == "no" else words[2]
+        kind = words[2]
         self.say(words, kind, MOST_HOPS if words[-1] == kind else number_of(words[-1]))
-        other = self.neighbor(words[1]).line("ebgp-multihop") if words[0] != "no" and kind == "ttl-security" else None
+        other = self.neighbor(words[1]).line("ebgp-multihop") if self.is_set and kind == "ttl-security" else None
         if other:
             self.refuse(f"'{line}': {NOT_TAKEN}: {other.place} has ebgp-multihop")
 
     def do_interval(self, words, line):
-        self.say(words, "interval", int(words[3]) if words[0] != "no" else None)
+        self.say(words, "interval", int(words[3]) if self.is_set else None)
 
     def do_kept(self, words, line):
         """Routes that outlast a restart."""
@@ -202,29 +198,26 @@ class BgpLines(Blocks):
 
     def do_duplicates(self, words, line):
         """Duplicates that are suppressed, as FRR does by itself."""
-        self.router.suppresses = Line(words[0] != "no", self.place)
+        self.router.suppresses = Line(self.is_set, self.place)
 
     def do_weight(self, words, line):
-        self.say(words, "weight", int(words[-1]) if words[0] != "no" else 0)
+        self.say(words, "weight", int(words[-1]) if self.is_set else 0)
 
     def do_activate(self, words, line):
-        is_active = words[0] != "no"
-        key = words[1 + (not is_active)]
+        key = words[1]
         if key in self.sixth:
-            self.sixth[key] = self.sixth[key][0], is_active
+            self.sixth[key] = self.sixth[key][0], self.is_set
             return
         found = self.neighbor(key)
-        found.is_active = is_active
-        if found.address is None:
-            for member in self.router.neighbors.values():
-                if member.group is found:
-                    member.is_active = is_active
+        found.is_active = self.is_set
+        for member in self.router.neighbors.values() if found.address is None else ():
+            if member.group is found:
+                member.is_active = self.is_set
 
     def do_policy(self, words, line):
-        is_set = words[0] != "no"
-        key, kind, name, direction = words[1:5] if is_set else words[2:6]
+        key, kind, name, direction = words[1:5]
         found = self.neighbor(key)
-        if not is_set:
+        if not self.is_set:
             found.policies.pop((kind, direction), None)
             return
         other = {"distribute-list": "prefix-list", "prefix-list": "distribute-list"}.get(kind)
@@ -233,7 +226,10 @@ class BgpLines(Blocks):
         found.policies[kind, direction] = Line(name, self.place)
 
     def do_send(self, words, line):
-        is_set = words[0] != "no"
-        key, rest = (words[1], words[3:]) if is_set else (words[2], words[4:])
-        for kind in SENT.get(rest[0], (rest[0],)) if rest else ("standard",):
-            self.say(["no", "neighbor", key] if is_set else ["neighbor", key], ("send", kind), False)
+        """A neighbor is sent all communities, but those that a line with `no` says."""
+        said = self.neighbor(words[1]).said
+        for kind in SENT.get(words[3], words[3:]) if words[3:] else ("standard",):
+            if self.is_set:
+                said.pop(("send", kind), None)
+            else:
+                said["send", kind] = Line(False, self.place)

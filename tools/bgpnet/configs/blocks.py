@@ -25,12 +25,13 @@ def indent_of(line):
 
 class Blocks:
     """Obeys the lines of one file. `reasons` has what is refused of them; what hangs on a refused line is not refused
-    by itself."""
+    by itself. The words of a line are those behind `no`, where it begins with that, and `is_set` says that it does
+    not."""
 
     def __init__(self, text, name):
         self.router, self.block, self.place = Router(name), "config", Place(name, 0)
         self.entry, self.foreign, self.interface, self.indent = None, None, None, None
-        self.reasons, self.of_maps, self.lost, self.sixth = Reasons(), {}, set(), {}
+        self.reasons, self.of_maps, self.lost, self.sixth, self.is_set = Reasons(), {}, set(), {}, True
         is_above = True
         for number, line in enumerate(text.split("\n"), 1):
             is_above = is_above and line.strip() in PRINTED_ABOVE
@@ -143,7 +144,8 @@ class Blocks:
         return self.refuse(f"'{' '.join(words)}' is no line that is known here")
 
     def act(self, match, line):
-        action, words, line = match.command.action, list(match.words), line.strip()
+        action, line, self.is_set = match.command.action, line.strip(), match.words[0] != "no"
+        words = list(match.words if self.is_set else match.words[1:])
         if action in ("foreign", "addresses", "warned", "ignored") and self.block == "config":
             self.router.foreign.add(self.place.line)
         if match.command.why and self.block == "route-map" and action not in ("undone", "cut"):
@@ -162,7 +164,6 @@ class Blocks:
 
     def named_neighbor(self, words):
         """The neighbor that a line names has to be there."""
-        words = words[1:] if words[0] == "no" else words
         if words[0] == "neighbor" and words[1:]:
             self.neighbor(words[1])
 

@@ -56,7 +56,7 @@ class IgpLines(Blocks):
     def do_default_route(self, words, line):
         """`ip nht resolve-via-default`: a next hop may be reached by the default route."""
         self.router.foreign.add(self.place.line)
-        self.router.igp.resolves_by_default = words[0] != "no"
+        self.router.igp.resolves_by_default = self.is_set
 
     def unread(self, line):
         self.router.igp.unread.append((self.place, line))
@@ -71,30 +71,23 @@ class IgpLines(Blocks):
             self.unread(" ".join(words))
 
     def interface_line(self, words):
-        interface, number = self.interface, number_of(words[-1])
+        interface, number, is_set = self.interface, number_of(words[-1]), words[0] != "no"
+        words = words if is_set else words[1:]
         if words == ["shutdown"]:
-            interface.is_shut = True
-        elif words == ["no", "shutdown"]:
-            interface.is_shut = False
-        elif words[:3] == ["ip", "ospf", "cost"] and len(words) == 4 and number:
-            interface.cost = number
-        elif words[:3] == ["ip", "ospf", "area"] and len(words) == 4:
+            interface.is_shut = is_set
+        elif words[:3] == ["ip", "ospf", "cost"] and (not is_set or len(words) == 4 and number):
+            interface.cost = number if is_set else None
+        elif words[:3] == ["ip", "ospf", "area"] and len(words) == 4 and is_set:
             interface.area = area_of(words[3])
         elif words[:3] == ["ip", "ospf", "passive"]:
-            self.router.igp.passive.add(interface.name)
-        elif words[:4] == ["no", "ip", "ospf", "passive"]:
-            self.router.igp.active.add(interface.name)
-        elif words[:1] == ["bandwidth"] and len(words) == 2:
+            (self.router.igp.passive if is_set else self.router.igp.active).add(interface.name)
+        elif words[:1] == ["bandwidth"] and len(words) == 2 and is_set:
             interface.bandwidth = number
-        elif words[:3] == ["ip", "router", "isis"]:
+        elif words[:3] == ["ip", "router", "isis"] and is_set:
             interface.runs_isis = True
-        elif words[:2] == ["isis", "metric"] and number is not None:
-            interface.metric = number
-        elif words[:3] == ["no", "isis", "metric"]:
-            interface.metric = None
-        elif words[:4] == ["no", "ip", "ospf", "cost"]:
-            interface.cost = None
-        elif words == ["isis", "passive"]:
+        elif words[:2] == ["isis", "metric"] and (not is_set or number is not None):
+            interface.metric = number if is_set else None
+        elif words == ["isis", "passive"] and is_set:
             interface.is_passive_isis = True
 
     def ospf_line(self, words):

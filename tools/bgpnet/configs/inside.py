@@ -93,14 +93,8 @@ def reached(router, neighbor, far, route):
     if metric is None:
         return Denial(neighbor.place, f"the next hop {dotted(route.next_hop)} is not reached")
     kind = EXTERNAL if is_external else CLIENT if neighbor.value("route-reflector-client", False) else INTERNAL
-    route.heard = Heard(kind, far_id(far), neighbor.address, far.router.number, metric)
+    route.heard = Heard(kind, far.id, neighbor.address, far.router.number, metric)
     return route
-
-
-def far_id(far):
-    """The router id that the other end of a session says."""
-    line = far.neighbor.line("router id") if far.router.language != "FRR" else None
-    return (line or far.router.router_id).name
 
 
 def is_direct(router, neighbor):

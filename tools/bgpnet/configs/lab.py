@@ -23,6 +23,13 @@ LOOK, NO_SESSION, FOR_EVER, FIRST = 0.6, 180.0, 25.0, 5.5
 ALIKE, CHANGES = 5, 8
 
 
+def obey(words, text=None):
+    """Runs a command of the system, and refuses where it fails."""
+    done = subprocess.run(list(map(str, words)), input=text, text=True, capture_output=True)
+    if done.returncode:
+        raise Refusal(f"'{' '.join(map(str, words))}' fails: {done.stderr.strip()}")
+
+
 class Lab:
     """The processes of a set of routers. `trees` has where the packages of each software are unpacked. `others` are
     processes beside them."""
@@ -72,8 +79,7 @@ class Lab:
 
     def run_in(self, asn, lines):
         """Obeys lines of `ip` in the namespace of a router, or in the one that stands here."""
-        subprocess.run(self.inside(asn, ["ip", "-batch", "-"]), input="\n".join(lines), text=True, check=True,
-                       capture_output=True)
+        obey(self.inside(asn, ["ip", "-batch", "-"]), "\n".join(lines))
 
     def make_spaces(self, numbers):
         """Makes a namespace for each of these."""

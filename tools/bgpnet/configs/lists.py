@@ -27,11 +27,9 @@ class List:
         self.kind, self.name, self.place, self.entries, self.in_order = kind, name, place, {}, None
         self.greatest, self.numbers, self.decided = 0, {}, {}
 
-    def next_number(self):
-        return (self.greatest // 5 + 1) * 5
-
     def add(self, number, entry):
         """Adds an entry, in place of another of its number."""
+        number = (self.greatest // 5 + 1) * 5 if number is None else number
         if former := self.entries.get(number):
             del self.numbers[former.permits, former.text]
         self.entries[number], self.numbers[entry.permits, entry.text] = entry, number

@@ -121,8 +121,8 @@ class Order:
         peer = way.path[1] if len(way.path) > 1 else None
         if peer is None:
             return 0, 0, way.path
-        end = self.set.ends[self.router.number][peer]
-        return self.set.id_of(peer, self.router.number), end.neighbor.address, way.path
+        ends = self.set.ends
+        return ends[peer][self.router.number].id, ends[self.router.number][peer].neighbor.address, way.path
 
     def beats(self, one, other):
         """Whether one way of a group stands above another by its metric: 1, -1, or 0 where that says nothing."""

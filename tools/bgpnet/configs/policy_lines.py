@@ -45,7 +45,7 @@ class PolicyLines(Blocks):
         same, exact = found.double(permits, text), found.double(permits, text + " exact-match")
         doubles = [other for other in (same if same != number else None, exact) if other is not None]
         if not doubles:
-            found.add(found.next_number() if number is None else number, entry)
+            found.add(number, entry)
         elif prefix_of(rest[0]) and prefix_of(rest[0])[0] != block.address:
             self.refuse(f"'{line}': {NOT_TAKEN}: {found.entries[doubles[0]].place} says the same")
         else:
@@ -80,7 +80,7 @@ class PolicyLines(Blocks):
         self.check_form(found, number, text, line)
         other = found.double(permits, text)
         if other is None or other == number:
-            found.add(found.next_number() if number is None else number, entry)
+            found.add(number, entry)
         elif has_hosts:
             self.refuse(f"'{line}': {NOT_TAKEN}: {found.entries[other].place} says the same")
 
@@ -112,7 +112,7 @@ class PolicyLines(Blocks):
     def add_once(self, found, number, entry):
         """Adds an entry, unless one says the same: FRR drops it in silence."""
         if found.double(entry.permits, entry.text) is None:
-            found.add(found.next_number() if number is None else number, entry)
+            found.add(number, entry)
 
     def do_communities(self, words, line):
         kind = words[1][:-len("-list")]

@@ -1,9 +1,12 @@
 """Reads the configuration of a router line by line, as FRR obeys it."""
+from itertools import count
+
 from bgpnet.configs.bgp_lines import BgpLines
 from bgpnet.configs.igp_lines import IgpLines
 from bgpnet.configs.places import Place, refusal
 from bgpnet.configs.policy_lines import PolicyLines
 from bgpnet.configs.router import Line
+from bgpnet.network import distances
 
 MOST_CALLS = 10
 
@@ -12,16 +15,23 @@ class Reader(BgpLines, PolicyLines, IgpLines):
     """Obeys all lines of one file."""
 
 
-def check_calls(router, name):
-    """Refuses a route-map whose calls go in a circle, or too deep."""
-    def depth(name, above):
-        if name in above:
-            raise refusal(router.maps[name].place, f"route-map {name} is called by a map that it calls")
-        calls = [entry.call for entry in router.maps[name].ordered() if entry.call and entry.call.name in router.maps]
-        return max((1 + depth(call.name, above + [name]) for call in calls), default=0)
-
-    if depth(name, []) > MOST_CALLS:
-        raise refusal(router.maps[name].place, f"route-map {name}: more than {MOST_CALLS} calls in one another")
+def wrong_calls(router):
+    """Why route-maps are refused whose calls go in a circle, or too deep."""
+    calls = {name: {entry.call.name for entry in one.ordered() if entry.call}.intersection(router.maps)
+             for name, one in router.maps.items()}
+    endless, deep = set(calls), set()
+    for depth in count(1):  # `longer` are the maps at which a chain of so many calls begins
+        longer = {name for name in endless if calls[name] & endless}
+        if depth == MOST_CALLS + 1:
+            deep = longer
+        if len(longer) == len(endless):
+            break
+        endless = longer
+    for name in endless:
+        if any(name in calls[other] for other in distances(calls, name)):
+            yield refusal(router.maps[name].place, f"route-map {name} is called by a map that it calls")
+    for name in deep - endless:
+        yield refusal(router.maps[name].place, f"route-map {name}: more than {MOST_CALLS} calls in one another")
 
 
 def check_detection(router, neighbor):
@@ -32,46 +42,44 @@ def check_detection(router, neighbor):
                                   "which neighbors FRR tells alike")
 
 
-def undefined(router):
-    """A warning for each name that is nowhere: what it then is to FRR."""
-    def lacks(kind, name, place, what, effect):
-        if name not in router.lists.get(kind, router.maps):
-            router.warn(place, f"there is no {what} {name}: {effect}")
+# The lists that a neighbor's lines name, by the word of the line.
+LISTS = {"distribute-list": "access-list", "prefix-list": "prefix-list", "filter-list": "as-path"}
 
-    lists = {"distribute-list": "access-list", "prefix-list": "prefix-list", "filter-list": "as-path"}
+
+def used_names(router):
+    """The lists and maps that lines name: of each its kind, its name, the line, what it is called there; what comes of
+    it where it is nowhere; and of one without entries where it stands below the line, and where it stands above."""
     for neighbor in router.all_neighbors():
         for (kind, direction), line in neighbor.policies.items():
-            what = lists.get(kind, kind)
-            lacks(what, line.name, line.place, what, f"it denies everything {direction}")
+            every = f"everything {direction}"
+            yield (LISTS.get(kind, kind), line.name, line.place, LISTS.get(kind, kind), f"it denies {every}",
+                   (f"denies {every}", f"permits {every}"))
     for network in router.networks.values():
         if network.map_name:
-            lacks("route-map", network.map_name, network.place, "route-map", "the network is not announced")
+            yield "route-map", network.map_name, network.place, "route-map", "the network is not announced", ()
     for entry in router.all_entries():
         for kind, (value, place) in entry.matches.items():
             if kind in router.lists:
-                lacks(kind, value[0] if isinstance(value, tuple) else value, place, f"{kind} list", "it fits nothing")
+                yield (kind, value[0] if isinstance(value, tuple) else value, place, f"{kind} list", "it fits nothing",
+                       ("fits everything", "fits nothing"))
         for kind, of in (("comm-list", "community"), ("large-comm-list", "large-community")):
             if kind in entry.sets:
-                value, place = entry.sets[kind]
-                lacks(of, value, place, f"{of} list", "nothing is deleted")
+                yield of, *entry.sets[kind], f"{of} list", "nothing is deleted", ()
         if entry.call:
-            lacks("route-map", entry.call.name, entry.call.place, "route-map", "the call does nothing")
+            yield "route-map", *entry.call, "route-map", "the call does nothing", ()
 
 
-def without_entries(router):
-    """A warning for each prefix-list of a description alone: what it is to FRR depends on the order of the lines."""
-    empty = {name: one for name, one in router.lists["prefix-list"].items() if not one.entries}
-    for neighbor in router.all_neighbors():
-        for (kind, direction), line in neighbor.policies.items():
-            if kind == "prefix-list" and line.name in empty:
-                is_above = empty[line.name].place.line < line.place.line
-                effect = "permits" if is_above else "denies"
-                router.warn(line.place, f"prefix-list {line.name} has no entries: it {effect} everything {direction}")
-    for entry in router.all_entries():
-        value, place = entry.matches.get("prefix-list", (None, None))
-        if value in empty:
-            is_above = empty[value].place.line < place.line
-            router.warn(place, f"prefix-list {value} has no entries: it fits {'nothing' if is_above else 'everything'}")
+def check_names(router):
+    """A warning for each name that is nowhere, then for each prefix-list of a description alone: what it is to FRR."""
+    empty = []
+    for kind, name, place, what, effect, effects in used_names(router):
+        found = router.lists.get(kind, router.maps).get(name)
+        if found is None:
+            router.warn(place, f"there is no {what} {name}: {effect}")
+        elif kind == "prefix-list" and not found.entries:
+            empty.append((place, f"prefix-list {name} has no entries: it {effects[found.place.line < place.line]}"))
+    for place, said in empty:
+        router.warn(place, said)
 
 
 def waiting(router):
@@ -115,11 +123,10 @@ def obey(text, name):
             router.warn(network.place, "network: taken as announced; with import-check FRR announces it where the "
                                        "route is in its table")
             break
-    for name in router.maps:
-        reasons.attempt(check_calls, router, name)
+    for why in wrong_calls(router):
+        reasons.add(why)
     for neighbor in router.all_neighbors():
         reasons.attempt(check_detection, router, neighbor)
-    undefined(router)
-    without_entries(router)
+    check_names(router)
     waiting(router)
     return router, reasons

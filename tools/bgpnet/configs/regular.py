@@ -121,9 +121,10 @@ class Reader:
 
 def expression(text):
     """The function that says whether an expression fits somewhere in a text."""
-    reader = Reader(text.replace("_", UNDERLINE))
-    found = reader.branches()
-    return re.compile(found).search
+    try:
+        return re.compile(Reader(text.replace("_", UNDERLINE)).branches()).search
+    except (RecursionError, OverflowError):
+        raise BadExpression("more in one another than is read here") from None
 
 
 def path_expression(text):

@@ -7,8 +7,14 @@ from bgpnet.configs.routes import Denial
 from bgpnet.network import MOST_LINKS, MOST_ROUTERS, Named, distances, path_text, telling
 from bgpnet.program import Refusal
 
-# An end of a session: the router and its neighbor.
-End = namedtuple("End", "router neighbor")
+
+class End(namedtuple("End", "router neighbor")):
+    """An end of a session: the router and its neighbor."""
+
+    @property
+    def id(self):
+        """The router id that the router says there."""
+        return (self.neighbor.line("router id") or self.router.router_id).name
 
 
 def dotted(address):
@@ -277,11 +283,6 @@ class Set(Named):
                                           f"{self.label(apart[0].number)}: the network isn't connected{why}")
 
     # ---- what is asked of the set
-
-    def id_of(self, asn, peer):
-        """The router id that a router says to a peer."""
-        line = self.ends[asn][peer].neighbor.line("router id")
-        return (line or self.routers[asn].router_id).name
 
     def notes(self):
         """The warnings, each with its place; of networks that are taken as announced the first alone."""

@@ -50,6 +50,10 @@ def prefix_of(word):
     return (value, int(length)) if value is not None and LENGTH.fullmatch(length) else None
 
 
+# What reads a word of a token that stands for values; it answers None of a word that is none.
+VALUES = {"A.B.C.D": address_of, "A.B.C.D/M": prefix_of, "X:X::X:X": lambda word: word.count(":") >= 2 or None}
+
+
 def variants(syntax):
     """The syntaxes without choices and options that a syntax stands for."""
     if option := OPTION.search(syntax):
@@ -68,7 +72,7 @@ def token_of(text):
         return "rest", None
     if bounds := re.fullmatch(r"\((\d+)-(\d+)\)", text):
         return "number", (int(bounds.group(1)), int(bounds.group(2)))
-    if text in ("A.B.C.D", "A.B.C.D/M", "X:X::X:X"):
+    if text in VALUES:
         return text, None
     return ("word" if text.isupper() else "keyword"), None
 
@@ -81,12 +85,8 @@ def fit(text, word):
     if kind == "number":
         number = number_of(word)
         return TYPED if number is not None and bounds[0] <= number <= bounds[1] else None
-    if kind == "A.B.C.D":
-        return TYPED if address_of(word) is not None else None
-    if kind == "A.B.C.D/M":
-        return TYPED if prefix_of(word) is not None else None
-    if kind == "X:X::X:X":
-        return TYPED if word.count(":") >= 2 else None
+    if kind in VALUES:
+        return TYPED if VALUES[kind](word) is not None else None
     return REST if kind == "rest" else ANY
 
 

@@ -14,7 +14,7 @@ from bgpnet.configs.routes import ORIGINS, Denial
 from bgpnet.configs.sessions import dotted
 from bgpnet.configs.showing import ending, inside_attributes, path_words, reported, with_steps
 from bgpnet.configs.syntax import number_of, prefix_of
-from bgpnet.network import MOST_PATHS, Named, Prefix, lines_text, path_text, routes_of, telling, words_of
+from bgpnet.network import MOST_PATHS, Named, Prefix, lines_text, numbered, read_path, routes_of, telling
 from bgpnet.program import Refusal, grouped
 from bgpnet.reports import is_json, read_report
 
@@ -116,37 +116,31 @@ def play(program, ranks, most=None):
 def read_routes(routers, text, name):
     """The paths of `route` and `path` lines, as `play` prints them, by router and prefix; refuses what is none of them,
     and what is not of these configurations. What FRR prints as JSON is taken too."""
+    origins, found = routers.origins(), {}
     if is_json(text):
-        found = read_report(text, name) if next(iter(routers.routers.values())).reach is None else \
-            reported(routers, text, name)
-        return known_routes(routers, found, name)
-    lines, origins = list(enumerate(text.split("\n"), 1)), routers.origins()
-    lines = [(Place(name, number), words_of(line)) for number, line in lines]
-    for place, words in lines:
-        if words[:1] in (["route"], ["path"]):
-            if len(words) != 4 or None in (number_of(words[1]), prefix_of(words[2]), PATH.fullmatch(words[3])):
-                raise refusal(place, f"'{' '.join(words)}' is no line 'route ROUTER PREFIX PATH'")
-            if int(words[1]) not in routers.routers:
-                raise refusal(place, f"these configurations have no router {words[1]}")
-            if Prefix.read(words[2]) not in origins:
-                raise refusal(place, f"no router announces {words[2]}")
-    found = routes_of([" ".join(words) for _, words in lines])
+        is_inside = next(iter(routers.routers.values())).reach is not None
+        told = reported(routers, text, name) if is_inside else read_report(text, name)
+        rows = ((name, *route) for route in told.items())
+    else:
+        rows = (row for number, words in numbered(text.split("\n")) for row in rows_of(Place(name, number), words))
+    for place, (asn, said), path in rows:
+        prefix = Prefix.read(str(said))
+        if asn not in routers.routers:
+            raise refusal(place, f"these configurations have no router {asn}")
+        if prefix not in origins:
+            raise refusal(place, f"no router announces {said}")
+        found[asn, prefix] = path
     if not found:
-        raise Refusal(f"{name}: no routes, as `play` prints them")
+        raise Refusal(f"{name}: no routes" + ", as `play` prints them" * (not is_json(text)))
     return found
 
 
-def known_routes(routers, routes, name):
-    """The routes of a report, of routers and prefixes of these configurations; others are refused."""
-    origins = routers.origins()
-    for asn, prefix in routes:
-        if asn not in routers.routers:
-            raise Refusal(f"{name}: these configurations have no router {asn}")
-        if prefix not in origins:
-            raise Refusal(f"{name}: no router announces {prefix}")
-    if not routes:
-        raise Refusal(f"{name}: no routes")
-    return routes
+def rows_of(place, words):
+    """The route of a line of `play`, with its place, if it has one."""
+    if words[0] in ("route", "path"):
+        if len(words) != 4 or None in (number_of(words[1]), prefix_of(words[2]), PATH.fullmatch(words[3])):
+            raise refusal(place, f"'{' '.join(words)}' is no line 'route ROUTER PREFIX PATH'")
+        yield place, (int(words[1]), words[2]), read_path(words[3])
 
 
 def verify(routers, routes, chosen=None):
@@ -232,7 +226,7 @@ def tie_ends(program, ranks, prefix, most=None):
         chosen = {asn: routes[asn, prefix] for asn in orders}
         if all(tie.allows(one) for (_, tie), one in zip(places, order)) or \
                 is_settled and all(judge.may_keep(asn, path, chosen) for asn, path in chosen.items()):
-            key = " ".join(["settled" if is_settled else "moving", *map(path_text, chosen.values())])
+            key = " ".join(["settled" if is_settled else "moving", *map(ranks.set.path_text, chosen.values())])
             ends[key] = ends.get(key, 0) + 1
     yield f"  ties: {len(places)}, orders played: {sum(ends.values())}{', and there are more' * are_more}"
     for said, count in sorted(ends.items(), key=lambda end: -end[1]):
@@ -246,7 +240,7 @@ def all_tie_ends(program, ranks, most=None):
         key = id(ranks.orders[prefix])
         if key not in known:
             known[key] = list(tie_ends(program, ranks, prefix, most))
-        yield f"prefix {prefix} of {origin}"
+        yield f"prefix {prefix} of {ranks.set.name_of(origin)}"
         yield from known[key]
 
 
@@ -267,14 +261,6 @@ class Reordered:
 
 # ---- what a change does
 
-class Both(Named):
-    """What the routers of two sets are called."""
-
-    def __init__(self, old, new):
-        self.called = telling({asn: router.host for routers in (old, new) for asn, router in routers.routers.items()
-                               if router.host})
-
-
 class Change:
     """Two sets of configurations, and what is other in the second."""
 
@@ -284,7 +270,9 @@ class Change:
                 raise Refusal(f"no router announces {prefix}")
         self.sides = [Ranks(routers, [one for one in chosen if one in routers.origins()] if chosen else None, True)
                       for routers in (old, new)]
-        self.names, self.both = [Names([]), Names([])], Both(old, new)
+        self.names, self.both = [Names([]), Names([])], Named()
+        self.both.called = telling({asn: router.host for routers in (old, new)
+                                    for asn, router in routers.routers.items() if router.host})
         self.ends = [play(program, ranks, most) for ranks in self.sides]
 
     def lines(self):

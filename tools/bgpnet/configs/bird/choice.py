@@ -47,7 +47,7 @@ class Order:
         return any(covers(prefix, near.address) for prefix in self.router.networks)
 
     def id_of(self, way):
-        return self.set.id_of(way.path[1], self.router.number), way.route.near.address
+        return self.set.ends[way.path[1]][self.router.number].id, way.route.near.address
 
     @staticmethod
     def metric(route):

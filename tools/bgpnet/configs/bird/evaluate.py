@@ -3,6 +3,7 @@
 It answers None, or how the filter or the function ends there: a word, a value and the place."""
 from functools import partial
 
+from bgpnet.configs.bird.attributes import STATIC
 from bgpnet.configs.bird.operations import ELEMENTS, has_type, wrong_type
 from bgpnet.configs.bird.run import Failure, checked, function_of
 from bgpnet.configs.bird.values import TYPES, Quad, type_of
@@ -193,8 +194,7 @@ def of_type(value, op, type):
 
 def set_attribute(node):
     name, type, term, adds = node.args
-    term, is_counted = function_of(term), name not in ("preference", "from", "gw", "scope", "dest", "ifname", "weight",
-                                                       "gw_mpls", "onlink")
+    term, is_counted = function_of(term), name not in STATIC
 
     def run(state):
         value, route = of_type(term(state), "EA_SET", type), state.route

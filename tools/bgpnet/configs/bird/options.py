@@ -9,6 +9,7 @@ A syntax has keywords, NUM, TEXT, ADDRESS, BOOL (which may be left out), `<one|o
 REST for whatever comes up to the end of the option."""
 from collections import namedtuple
 from functools import lru_cache
+from itertools import takewhile
 
 from bgpnet.configs.syntax import variants
 
@@ -146,11 +147,7 @@ def rows(table):
 def match(stream, table):
     """The row that the tokens at a stream begin, or None: as many keywords in front as there are."""
     for option in rows(table):
-        keywords = []
-        for word in option.words:
-            if word.isupper():
-                break
-            keywords.append(word)
+        keywords = list(takewhile(lambda word: not word.isupper(), option.words))
         if keywords and all(stream.is_next(word, more=at) for at, word in enumerate(keywords)):
             if fits(stream, option.words, len(keywords)):
                 return option, len(keywords)

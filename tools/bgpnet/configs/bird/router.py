@@ -101,12 +101,12 @@ class Router(Speaker):
                                         "does not take it")
         if other is None and side is None:
             raise refusal(protocol.end, f"protocol {protocol.name}: no line says the neighbor's AS number")
-        self.check_policies(protocol, side is not None and side.name == "internal"
-                            or other is not None and other.name == own.name)
+        is_internal = side is not None and side.name == "internal" or other is not None and other.name == own.name
+        self.check_policies(protocol, is_internal)
         if self.is_off(protocol):
             self.warn(protocol.said["disabled"].place, f"protocol {protocol.name} is disabled: there is no session")
             return
-        if side is not None and side.name == "internal" or other is not None and other.name == own.name:
+        if is_internal:
             raise refusal((other or side).place, "iBGP: every router is an AS of its own")
         self.take_number(protocol, own)
         if "ipv6" in protocol.said:

@@ -1,4 +1,6 @@
 """Works out terms: each node becomes a function of the state of a run."""
+import re
+
 from bgpnet.configs.bird.operations import SIGNATURES, has_type, wrong_type
 from bgpnet.configs.bird.sets import ANY, MORE, Mask, PrefixSet, Set
 from bgpnet.configs.bird.values import (EMPTY, LISTS, MOST, MOST_HALF, Address, Address6, Clist, Eclist, Enum,
@@ -37,15 +39,15 @@ def construct_pair(one, other):
 
 # ---- members
 
+# The signs of a pattern: one behind a backslash, which stands for itself, or any other.
+SIGNS, SIGNS_OF_MANY = re.compile(r"\\(.)|(.)", re.DOTALL), {"*": ".*", "?": "."}
+
+
 def shell_fits(pattern, text):
     """Whether a text fits a pattern with `*` and `?`."""
-    if not pattern:
-        return not text
-    if pattern[0] == "*":
-        return any(shell_fits(pattern[1:], text[at:]) for at in range(len(text) + 1))
-    if pattern[0] == "\\" and pattern[1:]:
-        return text[:1] == pattern[1] and shell_fits(pattern[2:], text[1:])
-    return bool(text) and pattern[0] in ("?", text[0]) and shell_fits(pattern[1:], text[1:])
+    spelt = (re.escape(escaped) if escaped else SIGNS_OF_MANY.get(sign) or re.escape(sign)
+             for escaped, sign in SIGNS.findall(pattern))
+    return re.fullmatch("".join(spelt), text, re.DOTALL) is not None
 
 
 def matches(one, other):

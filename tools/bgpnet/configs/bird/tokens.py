@@ -13,10 +13,10 @@ from bgpnet.configs.syntax import address_of
 # A token: `word` is a keyword, `name` any other; else it is a number, an address, a text or a sign.
 Token = namedtuple("Token", "kind value place")
 
-# A file that includes others goes so deep.
-DEEPEST = 8
+# A file that includes others goes so deep; and how many digits a number of 32 bits has at most.
+DEEPEST, MOST_DIGITS = 8, 10
 
-INCLUDE = re.compile(r'[ \t]*include[ \t]*"([^"\n]*)"[ \t]*;')
+INCLUDE = re.compile(r'[ \t]*include[ \t]*"([^"\n\0]*)"[ \t]*;')
 FORMS = re.compile(r"""
     (?P<blank>[ \t]+|\#[^\n]*)
   | (?P<comment>/\*.*?\*/)
@@ -88,12 +88,12 @@ class Lexer:
     @staticmethod
     def token(form, text, place):
         if form in ("number", "hex"):
-            number = int(text, 16 if form == "hex" else 10)
+            number = value_of(text[2:], 16) if form == "hex" else value_of(text)
             if number > MOST:
                 raise refusal(place, f"{text}: a number has at most 32 bits")
             return Token("number", number, place)
         if form == "address":
-            parts = [int(part) for part in text.split(".")]
+            parts = list(map(value_of, text.split(".")))
             if max(parts) > 255:
                 raise refusal(place, f"'{text}' is no address")
             return Token("address", Address(address_of(".".join(map(str, parts)))), place)
@@ -107,6 +107,12 @@ class Lexer:
         if form == "else":
             return Token("sign", text, place)
         return Token(form, {"address6": Address6, "rd": Distinguisher}.get(form, str)(text), place)
+
+
+def value_of(digits, base=10):
+    """The value of digits, however many zeros stand in front; of more than any number here has, a greater one."""
+    digits = digits.lstrip("0")
+    return int(digits or "0", base) if len(digits) <= MOST_DIGITS else MOST + 1
 
 
 def written(token):

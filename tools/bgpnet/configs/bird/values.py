@@ -81,7 +81,7 @@ ENUMS = {
     "af": (None, "AF_IPV4", "AF_IPV6"),
 }
 NAMED = {name: Enum(kind, number) for kind, names in ENUMS.items() for number, name in enumerate(names) if name}
-IGP, STATIC, BGP = NAMED["ORIGIN_IGP"], NAMED["RTS_STATIC"], NAMED["RTS_BGP"]
+STATIC, BGP = NAMED["RTS_STATIC"], NAMED["RTS_BGP"]
 
 
 class Incomparable(Exception):
