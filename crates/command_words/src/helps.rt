@@ -185,7 +185,7 @@ The output is
     rim 3-1 over 3-2-1
 
 'safe': the prefix has no dispute wheel. One assignment of paths is stable, whichever links are up, and
-the routers come to no other. 'wheel K': it has one of K rims. 'rim': a router that has the first path
+the routers settle in no other. 'wheel K': it has one of K rims. 'rim': a router that has the first path
 likes the second better, which goes on by the first path of the next rim, the last by that of the first.
 A wheel does not say that the network never settles; 'bgpnet stable' lists in which routes it can.
 

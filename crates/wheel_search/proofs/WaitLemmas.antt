@@ -1,5 +1,7 @@
 -- Paths that come to the origin, and what is let go.
-use Rattle.std.proofs.Common.{◌≡◌, ℕ, zero, suc, ◌≤◌, ◌↔◌, List, sym, ap, subst, ◌∙◌, inl, inr}
+use Rattle.std.proofs.Common.{◌≡◌, ℕ, zero, suc, ◌<◌, ◌≤◌, ◌↔◌, List, [], ◌∷◌, ◌++◌, length, get_or, sym, ap, subst, ◌∙◌, arith, inl, inr}
+use Rattle.std.proofs.lemmas.Bool.{cases_lt}
+use Rattle.std.proofs.lemmas.List.{get_or_append_left, get_or_push, length_push}
 use mathlib.Core.Logic.{◌⊎◌}
 use Rattle.wheel_search.specs.declared.wait.Wait.{Wait}
 use Rattle.wheel_search.specs.declared.wait.Wait.TheVariants.{Never, Nothing, Rest}
@@ -63,3 +65,15 @@ free_more waits (suc n) r i f = λ better le c next at e. free_more waits n next
 pub free_rest : (waits : List (List Wait)) (n r i v k : ℕ) → IsFree waits n r i → (j : ℕ) → j ≤ i → Comes waits r j → wait_of waits r j ≡ Rest v k → IsFree waits n v k
 free_rest waits zero r i v k f j le c e = absurd f
 free_rest waits (suc n) r i v k f j le c e = free_more waits n v k (f j le c v k e)
+
+-- ---- one wait more
+
+pub waits_more : (P : ℕ → Wait → Type 0) (xs new : List Wait) (x : Wait) (n : ℕ) → new ≡ xs ++ x ∷ [] → length xs ≡ n → ((k : ℕ) → k < length xs → P k (get_or xs k Never)) → P n x
+    → (k : ℕ) → k < length new → P k (get_or new k Never)
+waits_more P xs new x n e size all one k l = elim (cases_lt k (length xs)) [
+  | inl m ↦ subst (P k) (sym (ap (λ (ys : List Wait). get_or ys k Never) e ∙ get_or_append_left xs (x ∷ []) Never k m)) (all k m)
+  | inr m ↦
+      let here : n ≡ k = omega (arith, size, m, l, ap length e, length_push xs x) in
+      let last : get_or new n Never ≡ x = ap (λ (ys : List Wait). get_or ys n Never) e ∙ get_or_push xs x Never n size in
+      subst (λ (i : ℕ). P i (get_or new i Never)) here (subst (P n) (sym last) one)
+]

@@ -112,8 +112,8 @@ fn none_gone(alloc: Global, waits: &[NetItems<Wait>]) -> Result<Letting, AllocEr
     })
 }
 
-// Lets all paths go. `Some` has the rows that hold one another in a circle, by feasible paths if it is asked whether paths
-// are, and how far all went.
+// Lets all paths go. `Some` has the rows that hold one another in a circle, by feasible paths if it is asked whether
+// paths are, and how far all went.
 fn let_rows_go(
     alloc: Global,
     waits: &[NetItems<Wait>],

@@ -15,13 +15,14 @@
 //! a rule: a longer one hangs on shorter ones or on listed ones, so it is in no circle. Where a router has more than a
 //! limit the search refuses.
 //!
-//! The definitions stand in `specs/`: `Found` (what is answered and refused), `Lists` (feasible paths by length), `Rows`
-//! (the paths of each router), `Waits` (what a path waits for), `Letting` (what was let go, and what holds what) and
-//! `Rims` (the rims of a circle).
+//! The definitions stand in `specs/`: `Found` (what is answered and refused), `Lists` (feasible paths by length),
+//! `Rows` (the paths of each router), `Chains` (where those of a row stand), `Waits` (what a path waits for), `Letting`
+//! (what was let go, and what holds what) and `Rims` (the rims of a circle).
 //!
 //! Left out: what it means that there is no wheel, which is `dispute_wheels`'; texts.
 #![tactic(auto)]
 
+mod chain;
 mod letting;
 mod listing;
 mod refusal;

@@ -4,9 +4,11 @@ ghost use Rattle.std.specs.Prelude.{◌≡◌, ◌↔◌, ◌+◌, ◌^◌, ◌<
 ghost use Rattle.std.specs.List.{All, Contains};
 ghost use Rattle.ranked_policy.specs.Paths.{BeginsWith};
 ghost use Rattle.ranked_policy.specs.Ways.{HasWay};
+ghost use Rattle.wheel_search.specs.Chains.{IsChain, AreChains};
 ghost use Rattle.wheel_search.specs.Rows.{AreLinksOf, AreRows, IsRow, IsWait, IsEachWait, AreWaits, RestStands, paths_of};
 ghost use Rattle.wheel_search.specs.Waits.{wait_of, Comes};
 
+use crate::chain::{KEYS, all_chains, key_of};
 use crate::row::{Kind, Row};
 use ranked_policy::laws::each_policy_is_an_order;
 use ranked_policy::{Asn, LONGEST_PATH, Link, NetItems, Path, is_onward};
@@ -29,16 +31,24 @@ pub(crate) enum Wait {
     },
 }
 
-// The place of the path by which another goes on from a router.
-fn place_of_rest(paths: &[Path], router: Asn, path: &[Asn]) -> Option<usize>
+// The place of the path by which another goes on from a router. Those with its key are looked at alone.
+fn place_of_rest(paths: &[Path], chain: &[usize], router: Asn, path: &[Asn]) -> Option<usize>
+    requires { IsChain paths.now chain.now }
     ensures { MatchOption result ((rest : List ℕ) → Contains paths.now rest → path.now ≡ router ∷ rest → ⊥)
         (λ place. (place < length paths.now) × (place + 1 < 2 ^ 64)
         × (path.now ≡ router ∷ slice_index_or paths.now place [])) }
 {
-    for (place, rest) in paths.iter().enumerate() {
-        if is_onward(path, router, rest.as_slice()) {
+    let [_first, onward @ ..] = path else {
+        return None;
+    };
+    let key = key_of(onward);
+    let mut last = chain[key];
+    'places: while last > 0 {
+        let place = last - 1;
+        if is_onward(path, router, paths[place].as_slice()) {
             return Some(place);
         }
+        last = chain[KEYS + place];
     }
     None
 }
@@ -59,12 +69,14 @@ fn leads_to(links: &[Link], router: Asn, peer: Asn) -> bool
 fn wait_over(
     instance: &Instance,
     rows: &[Row],
+    chains: &[NetItems<usize>],
     links: &[Link],
     row: &Row,
     peer: Asn,
     path: &[Asn],
 ) -> Wait
     requires rows { AreRows instance.now rows.now }
+    requires chains { AreChains rows.now chains.now }
     requires links { AreLinksOf instance.now row.now.seat.router links.now }
     requires over { (rest : List ℕ) × (path.now ≡ row.now.seat.router ∷ peer ∷ rest) }
     requires stands { RestStands instance.now rows.now path.now }
@@ -76,7 +88,8 @@ fn wait_over(
     let Some(next) = network.place(peer) else {
         return Wait::Never;
     };
-    let Some(place) = place_of_rest(rows[next].paths(), router, path) else {
+    let chain = chains[next].as_slice();
+    let Some(place) = place_of_rest(rows[next].paths(), chain, router, path) else {
         return Wait::Never;
     };
     if leads_to(links, router, peer) {
@@ -87,8 +100,16 @@ fn wait_over(
 }
 
 // What a path of a row waits for; the links are those of the row's router.
-fn wait_for(instance: &Instance, rows: &[Row], links: &[Link], row: &Row, path: &[Asn]) -> Wait
+fn wait_for(
+    instance: &Instance,
+    rows: &[Row],
+    chains: &[NetItems<usize>],
+    links: &[Link],
+    row: &Row,
+    path: &[Asn],
+) -> Wait
     requires rows { AreRows instance.now rows.now }
+    requires chains { AreChains rows.now chains.now }
     requires links { AreLinksOf instance.now row.now.seat.router links.now }
     requires row { IsRow instance.now row.now }
     requires begins { BeginsWith path.now row.now.seat.router }
@@ -98,7 +119,7 @@ fn wait_for(instance: &Instance, rows: &[Row], links: &[Link], row: &Row, path: 
     each_policy_is_an_order();
     let _network = instance.network();
     match path {
-        [_first, peer, ..] => wait_over(instance, rows, links, row, *peer, path),
+        [_first, peer, ..] => wait_over(instance, rows, chains, links, row, *peer, path),
         _ => match row.seat.kind {
             Kind::Origin => Wait::Nothing,
             Kind::Ranked(_) | Kind::Free => Wait::Never,
@@ -106,43 +127,28 @@ fn wait_for(instance: &Instance, rows: &[Row], links: &[Link], row: &Row, path: 
     }
 }
 
-// What the paths of a row wait for; the links are those of the row's router.
-fn waits_by(
-    alloc: Global,
-    instance: &Instance,
-    rows: &[Row],
-    links: &[Link],
-    row: &Row,
-) -> Result<NetItems<Wait>, AllocError>
-    requires rows { AreRows instance.now rows.now }
-    requires links { AreLinksOf instance.now row.now.seat.router links.now }
-    requires row { IsRow instance.now row.now }
-    requires stand { All (RestStands instance.now rows.now) (paths_of row.now) }
-    ensures { IfOk result (λ waits. IsEachWait instance.now rows.now row.now waits) }
-{
-    let paths = row.paths();
-    let mut waits = Vec::with_capacity(alloc, paths.len())?;
-    for path in paths {
-        waits.push(wait_for(instance, rows, links, row, path.as_slice()))?;
-    }
-    Ok(NetItems::from_vec(waits))
-}
-
 // What the paths of a row wait for.
 fn waits_of(
     alloc: Global,
     instance: &Instance,
     rows: &[Row],
+    chains: &[NetItems<usize>],
     row: &Row,
 ) -> Result<NetItems<Wait>, AllocError>
     requires rows { AreRows instance.now rows.now }
+    requires chains { AreChains rows.now chains.now }
     requires row { IsRow instance.now row.now }
     requires stand { All (RestStands instance.now rows.now) (paths_of row.now) }
     ensures { IfOk result (λ waits. IsEachWait instance.now rows.now row.now waits) }
 {
     let network = instance.network();
     let links = network.links_of(row.seat.router);
-    waits_by(alloc, instance, rows, links, row)
+    let paths = row.paths();
+    let mut waits = Vec::with_capacity(alloc, paths.len())?;
+    for path in paths {
+        waits.push(wait_for(instance, rows, chains, links, row, path.as_slice()))?;
+    }
+    Ok(NetItems::from_vec(waits))
 }
 
 /// What the paths of each row wait for.
@@ -156,9 +162,10 @@ pub(crate) fn all_waits(
 {
     each_policy_is_an_order();
     let _network = instance.network();
+    let chains = all_chains(alloc, rows)?;
     let mut waits = Vec::with_capacity(alloc, rows.len())?;
     for row in rows {
-        waits.push(waits_of(alloc, instance, rows, row)?)?;
+        waits.push(waits_of(alloc, instance, rows, chains.as_slice(), row)?)?;
     }
     Ok(waits)
 }

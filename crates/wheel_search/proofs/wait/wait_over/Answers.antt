@@ -1,6 +1,8 @@
-use Rattle.std.proofs.Common.{◌≡◌, ◌∙◌, ◌<◌, length, sym, ap, subst}
+use Rattle.std.proofs.Common.{◌≡◌, ◌∙◌, ◌<◌, [], ℕ, List, length, get_or, sym, ap, subst, arith}
+use Rattle.std.proofs.lemmas.List.{get_or_default}
 use Rattle.std.specs.List.{HoldsAt}
 use Rattle.ranked_policy.specs.Plans.{Plan, IsRouter}
+use Rattle.wheel_search.specs.Chains.{IsChain}
 use Rattle.wheel_search.specs.Rows.{paths_of, paths_at}
 use Rattle.wheel_search.proofs.GraphLemmas.{not_known, not_listed, not_linked, goes_on, router_found, paths_here}
 use Rattle.wheel_search.proofs.wait.wait_over.Goals as goal
@@ -10,6 +12,27 @@ returns-in_default c =
     let net = c.network-network.ensures in
     not_known c.each_policy_is_an_order.ensures c.args.instance.now net.problem.problem c.args.rows.now c.requires.rows c.args.row.now.seat.router c.args.peer c.requires.over.0 c.args.path.now c.requires.over.1
     (λ known. absurd (cc (c.in_default.ensures.some.1 (subst (λ (n : Plan). IsRouter n.routers c.args.peer) (sym net.value) known))))
+
+pub bounds-chains-next : goal.bounds-chains-next
+bounds-chains-next c =
+    let net = c.network-network.ensures in
+    let next = c.in-Some.next in
+    let place = subst (λ (n : Plan). (next < length n.routers) × HoldsAt (λ r. r.asn ≡ c.args.peer) n.routers next) net.value c.in-Some.ensures.value in
+    let found = router_found c.each_policy_is_an_order.ensures c.args.instance.now net.problem.problem c.args.rows.now c.requires.rows next c.args.peer place.0 place.1 in
+    omega (arith, found.0, c.requires.chains.size)
+
+pub place_of_rest-requires : goal.place_of_rest-requires
+place_of_rest-requires c =
+    let net = c.network-network.ensures in
+    let rows = c.args.rows.now in
+    let next = c.in-Some.next in
+    let place = subst (λ (n : Plan). (next < length n.routers) × HoldsAt (λ r. r.asn ≡ c.args.peer) n.routers next) net.value c.in-Some.ensures.value in
+    let found = router_found c.each_policy_is_an_order.ensures c.args.instance.now net.problem.problem rows c.requires.rows next c.args.peer place.0 place.1 in
+    let row = c.index-rows-next.result in
+    let paths : c.paths.result.now ≡ paths_of (get_or rows next row) = c.paths.ensures ∙ ap paths_of c.index-rows-next.is in
+    let chain : c.as_slice-chain.result.now ≡ get_or c.args.chains.now next [] =
+    c.as_slice-chain.ensures ∙ c.index-chains-next.is ∙ get_or_default c.args.chains.now next c.index-chains-next.result [] (omega (arith, found.0, c.requires.chains.size)) in
+    subst (λ (xs : List (List ℕ)). IsChain xs c.as_slice-chain.result.now) (sym paths) (subst (IsChain (paths_of (get_or rows next row))) (sym chain) (c.requires.chains.each next row found.0))
 
 pub returns-in_default-place_of_rest : goal.returns-in_default-place_of_rest
 returns-in_default-place_of_rest c =

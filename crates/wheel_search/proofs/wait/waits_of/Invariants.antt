@@ -2,7 +2,7 @@
 use Rattle.std.proofs.Common.{◌≡◌, ◌<◌, [], ℕ, length, get_or}
 use Rattle.wheel_search.specs.declared.wait.Wait.TheVariants.{Never}
 use Rattle.wheel_search.specs.Rows.{IsWait, paths_of}
-use Rattle.wheel_search.proofs.wait.waits_by.Given as goal
+use Rattle.wheel_search.proofs.wait.waits_of.Given as goal
 
 abbrev pub invariant-loop-path : goal.invariant-loop-path
 invariant-loop-path l = record {
