@@ -7,6 +7,9 @@ import re
 UNDERLINE = "(^|[,{}() ]|$)"
 # What FRR takes in an expression of an as-path list.
 OF_PATHS = frozenset("0123456789_^|[,{}() ]$*+.?-\\")
+# How many groups and repetitions may stand in one another.
+MOST_NESTED = 100
+TOO_DEEP = "more in one another than is read here"
 
 
 class BadExpression(Exception):
@@ -41,10 +44,12 @@ class Reader:
 
     def piece(self):
         is_anchor = self.front() in ("^", "$")
-        piece = self.atom()
+        piece, depth = self.atom(), self.depth
         while self.front() and self.front() in "*+?{":
             if is_anchor:
                 raise BadExpression("a repetition of ^ or $")
+            depth += 1
+            self.bound(depth)
             piece = f"(?:{piece}{self.repetition()})"
         return piece
 
@@ -60,8 +65,14 @@ class Reader:
             return self.escaped()
         return {".": "[^\\0]", "^": "\\A", "$": "\\Z"}.get(sign) or re.escape(sign)
 
+    @staticmethod
+    def bound(depth):
+        if depth > MOST_NESTED:
+            raise BadExpression(TOO_DEEP)
+
     def group(self):
         self.depth += 1
+        self.bound(self.depth)
         inner = self.branches()
         if self.front() != ")":
             raise BadExpression("an open (")
@@ -124,7 +135,7 @@ def expression(text):
     try:
         return re.compile(Reader(text.replace("_", UNDERLINE)).branches()).search
     except (RecursionError, OverflowError):
-        raise BadExpression("more in one another than is read here") from None
+        raise BadExpression(TOO_DEEP) from None
 
 
 def path_expression(text):
